@@ -1,0 +1,2 @@
+pub mod Integers
+pub mod Sizes

@@ -1,0 +1,79 @@
+-- How large a signed number, a sum or a quotient can be. Assumes nothing.
+use mathlib.Core.Path.{_≡_, refl, sym, _∙_, ap}
+use mathlib.Core.Logic.{⊎-elim}
+use Prim.Native.Nat.{ℕ, zero, suc, _+_, _*_, _-_, _/_, _^_, _≤_, _<_}
+use native.Mathlib.Omega.{arith}
+use native.Mathlib.Nat.{suc-mul, mul-add, mul-div-le, lt-mul-div-succ}
+use native.Mathlib.Numerals.{add-one}
+use lib.IntN.{ℤ, pos, negsuc, negℤ, natAbs, _+ℤ_, _-ℤ_, _*ℤ_}
+use Rattle.units.specs.Integer.{sum, total, roundedUp}
+use Rattle.units.proofs.Integers.{up, dn, add-law, sub-law, abs-law, one-sided}
+
+-- |z| is the least sum of two numbers whose difference is z
+pub abs-least : (z : ℤ) (x y : ℕ) → up z + y ≡ dn z + x → natAbs z ≤ x + y
+abs-least z x y e = ⊎-elim (λ (d : dn z ≡ 0). omega (arith, abs-law z)) (λ (u : up z ≡ 0). omega (arith, abs-law z)) (one-sided z)
+
+-- a bound on both sides is a bound on the size
+pub abs-within : (z : ℤ) (M : ℕ) → up z ≤ dn z + M → dn z ≤ up z + M → natAbs z ≤ M
+abs-within z M a b = ⊎-elim (λ (d : dn z ≡ 0). omega (arith, abs-law z)) (λ (u : up z ≡ 0). omega (arith, abs-law z)) (one-sided z)
+
+pub abs-add : (a b : ℤ) → natAbs (a +ℤ b) ≤ natAbs a + natAbs b
+abs-add a b = omega (arith, abs-least (a +ℤ b) (up a + up b) (dn a + dn b) (omega (arith, add-law a b)), abs-law a, abs-law b)
+
+pub abs-sub : (a b : ℤ) → natAbs (a -ℤ b) ≤ natAbs a + natAbs b
+abs-sub a b = omega (arith, abs-least (a -ℤ b) (up a + dn b) (dn a + up b) (omega (arith, sub-law a b)), abs-law a, abs-law b)
+
+pub abs-neg : (a : ℤ) → natAbs (negℤ a) ≡ natAbs a
+abs-neg (pos zero) = refl
+abs-neg (pos (suc n)) = refl
+abs-neg (negsuc n) = refl
+
+pub abs-mul : (a b : ℤ) → natAbs (a *ℤ b) ≡ natAbs a * natAbs b
+abs-mul (pos a) (pos b) = refl
+abs-mul (pos a) (negsuc b) = abs-neg (pos (a * suc b))
+abs-mul (negsuc a) (pos b) = abs-neg (pos (suc a * b))
+abs-mul (negsuc a) (negsuc b) = refl
+
+-- ---- sums, as a loop's invariant has them
+
+pub sum-none : (f : ℕ → ℤ) → sum f 0 ≡ pos 0
+unfolding sum
+sum-none f = refl
+
+pub sum-more : (f : ℕ → ℤ) (n : ℕ) → sum f (n + 1) ≡ sum f n +ℤ f n
+unfolding sum
+sum-more f n = rw add-one
+
+pub sum-abs : (f : ℕ → ℤ) (b n : ℕ) → ((i : ℕ) → i < n → natAbs (f i) ≤ b) → natAbs (sum f n) ≤ n * b
+unfolding sum
+sum-abs f b zero h = omega arith
+sum-abs f b (suc n) h = omega (arith, abs-add (sum f n) (f n), sum-abs f b n (λ i l. h i (omega arith)), h n (omega arith), suc-mul n b)
+
+pub total-none : (f : ℕ → ℕ) → total f 0 ≡ 0
+unfolding total
+total-none f = refl
+
+pub total-more : (f : ℕ → ℕ) (n : ℕ) → total f (n + 1) ≡ total f n + f n
+unfolding total
+total-more f n = rw add-one
+
+pub total-small : (f : ℕ → ℕ) (b n : ℕ) → ((i : ℕ) → i < n → f i ≤ b) → total f n ≤ n * b
+unfolding total
+total-small f b zero h = omega arith
+total-small f b (suc n) h = omega (arith, total-small f b n (λ i l. h i (omega arith)), h n (omega arith), suc-mul n b)
+
+-- ---- division by s above 0
+
+-- rounded down: the greatest r with s r ≤ n
+pub rounded-down-law : (n s : ℕ) → 0 < s → (s * (n / s) ≤ n) × (n < s * (n / s + 1))
+rounded-down-law n s p = (mul-div-le n s, lt-mul-div-succ n p)
+
+-- rounded up: the least r with n ≤ s r
+pub rounded-up-law : (n s : ℕ) → 0 < s → (n ≤ s * roundedUp n s) × (s * roundedUp n s < n + s)
+unfolding roundedUp
+rounded-up-law n s p =
+    let m = n + (s - 1) in
+    let low = mul-div-le m s in
+    let high = lt-mul-div-succ m p in
+    let e = mul-add s (m / s) 1 in
+    (omega arith, omega arith)

@@ -1,0 +1,27 @@
+-- The voltage: whole microvolts, its two limits and what lies within them. Assumes nothing.
+use mathlib.Core.Bool.{Bool}
+use Prim.Native.Nat.{ℕ, _^_, _≤_}
+use lib.Dec.{leb}
+use lib.IntN.{ℤ, natAbs}
+
+-- the voltage limit, 33,554,432 µV
+abbrev pub voltageLimit : ℕ
+voltageLimit = 2 ^ 25
+
+-- the drive limit, 16,777,216 µV
+abbrev pub driveLimit : ℕ
+driveLimit = 2 ^ 24
+
+-- z lies from -limit to limit: as a fact, and as the test that the code makes
+abbrev pub Within : ℕ → ℤ → Type 0
+Within limit z = natAbs z ≤ limit
+
+abbrev pub within : ℕ → ℤ → Bool
+within limit z = leb (natAbs z) limit
+
+-- a node's voltage that is in range, and a drive that is legal
+abbrev pub InRange : ℤ → Type 0
+InRange z = Within voltageLimit z
+
+abbrev pub InDrive : ℤ → Type 0
+InDrive z = Within driveLimit z
