@@ -1,2 +1,6 @@
+pub mod Doubling
 pub mod Integers
+pub mod LittleEndian
+pub mod Machine
+pub mod Rounding
 pub mod Sizes

@@ -1,2 +1,4 @@
+pub mod Bytes
+pub mod Float
 pub mod Integer
 pub mod Voltage

@@ -1,4 +1,4 @@
--- The voltage: whole microvolts, its two limits and what lies within them. Assumes nothing.
+-- The voltage: whole microvolts, its two limits, and what lies within them. Assumes nothing.
 use mathlib.Core.Bool.{Bool}
 use Prim.Native.Nat.{ℕ, _^_, _≤_}
 use lib.Dec.{leb}
@@ -19,7 +19,7 @@ Within limit z = natAbs z ≤ limit
 abbrev pub within : ℕ → ℤ → Bool
 within limit z = leb (natAbs z) limit
 
--- a node's voltage that is in range, and a drive that is legal
+-- a voltage that a node may have, and one that a node may be driven to
 abbrev pub InRange : ℤ → Type 0
 InRange z = Within voltageLimit z
 

@@ -1,0 +1,69 @@
+-- Laws of `littleEndian` and `stored`, each once over the number of bytes: two parts make a whole, what was stored is read
+-- back, and every other byte stays. Assumes nothing.
+use mathlib.Core.Path.{_≡_, refl, sym, _∙_, ap}
+use mathlib.Core.List.{List}
+use mathlib.Core.Logic.{_⊎_, inl, inr, ⊎-elim}
+use Prim.Native.Nat.{ℕ, zero, suc, _+_, _*_, _-_, _/_, _%_, _^_, _≤_, _<_}
+use native.Mathlib.Omega.{arith}
+use native.Mathlib.Nat.{add-zero, zero-add, suc-add, mul-add, mul-comm, mul-assoc, one-mul, mul-le-mul-left, pow-succ', pow-zero, div-one, mod-one, div-div-eq-div-mul}
+use native.Mathlib.Numerals.{add-one}
+use lib.Arith.{mod-mul}
+use lib.ListN.{length, getD, set, length-set}
+use lib.Seq.{getD-set-same, getD-set-other}
+use lib.Pow.{pow-add}
+use Rattle.units.specs.Bytes.{littleEndian, stored, Holds}
+
+-- 256 ^ n is above 0
+pub pow-above : (n : ℕ) → 0 < 256 ^ n
+pow-above zero = omega (arith, pow-zero 256)
+pow-above (suc n) = omega (arith, pow-succ' 256 n, pow-above n)
+
+-- a byte is what one byte holds
+pub holds-byte : (s : List ℕ) (at r : ℕ) → r ≡ getD s at 0 → r < 256 → Holds 1 s at r
+unfolding littleEndian
+holds-byte s at r e h = record { value = e ∙ sym (omega arith); small = h }
+
+-- the next place after at + 1 is at + suc a
+next : (at a : ℕ) → at + 1 + a ≡ at + suc a
+next at a = omega arith
+
+split : (a b : ℕ) (s : List ℕ) (at : ℕ) → littleEndian (a + b) s at ≡ littleEndian a s at + 256 ^ a * littleEndian b s (at + a)
+unfolding littleEndian
+split zero b s at = rw (zero-add b, add-zero at, one-mul, zero-add)
+split (suc a) b s at = rw (suc-add a b, split a b s (at + 1), next at a, pow-succ' 256 a) (omega (arith, mul-add 256 (littleEndian a s (at + 1)) (256 ^ a * littleEndian b s (at + suc a)), mul-assoc 256 (256 ^ a) (littleEndian b s (at + suc a))))
+
+-- a bytes, and b more behind them, hold what the two together do
+pub holds-both : (a b : ℕ) (s : List ℕ) (at r q : ℕ) → Holds a s at r → Holds b s (at + a) q → Holds (a + b) s at (r + 256 ^ a * q)
+holds-both a b s at r q h k = record {
+  value = rw (split a b s at, h .value, k .value);
+  small = rw (pow-add 256 a b) (omega (arith, h .small, mul-le-mul-left (256 ^ a) (k .small), mul-add (256 ^ a) q 1));
+}
+
+-- the lower a bytes of v, and the b above them, stored one after the other
+pub stored-both : (a b : ℕ) (s : List ℕ) (at v : ℕ) → stored (a + b) s at v ≡ stored b (stored a s at v) (at + a) (v / 256 ^ a)
+unfolding stored
+stored-both zero b s at v = rw (zero-add b, add-zero at, pow-zero 256, div-one v)
+stored-both (suc a) b s at v = rw (suc-add a b, stored-both a b (set s at (v % 256)) (at + 1) (v / 256), next at a, div-div-eq-div-mul v 256 (256 ^ a), pow-succ' 256 a)
+
+-- a store changes no length ..
+pub stored-length : (n : ℕ) (s : List ℕ) (at v : ℕ) → length (stored n s at v) ≡ length s
+unfolding stored
+stored-length zero s at v = refl
+stored-length (suc n) s at v = stored-length n (set s at (v % 256)) (at + 1) (v / 256) ∙ simp length-set
+
+-- .. and no byte before or after
+pub stored-else : (n : ℕ) (s : List ℕ) (at v j : ℕ) → (j < at) ⊎ (at + n ≤ j) → getD (stored n s at v) j 0 ≡ getD s j 0
+unfolding stored
+stored-else zero s at v j h = refl
+stored-else (suc n) s at v j h =
+    stored-else n (set s at (v % 256)) (at + 1) (v / 256) j (⊎-elim (λ (l : j < at). inl (omega arith)) (λ (l : at + suc n ≤ j). inr (omega arith)) h)
+    ∙ getD-set-other s at j (v % 256) 0 (λ e. ⊎-elim (λ (l : j < at). omega arith) (λ (l : at + suc n ≤ j). omega arith) h)
+
+-- what was stored is read back
+pub stored-read : (n : ℕ) (s : List ℕ) (at v : ℕ) → at + n ≤ length s → littleEndian n (stored n s at v) at ≡ v % 256 ^ n
+unfolding littleEndian stored
+stored-read zero s at v h = sym (rw (pow-zero 256) (mod-one v))
+stored-read (suc n) s at v h =
+    let first = stored-else n (set s at (v % 256)) (at + 1) (v / 256) at (inl (omega arith)) ∙ getD-set-same s at (v % 256) 0 (omega arith) in
+    let rest = stored-read n (set s at (v % 256)) (at + 1) (v / 256) (simp length-set (omega arith)) in
+    rw (first, rest, pow-succ' 256 n, mul-comm 256 (256 ^ n), mod-mul v {m = 256 ^ n} {c = 256} (pow-above n) (omega arith)) (omega arith)

@@ -1,0 +1,20 @@
+use lib.IntN.{_*ℤ_}
+use mir.Val.{SFits}
+use mir.Syntax.{w64}
+use native.Mathlib.Omega.{arith}
+use Rattle.units.proofs.Machine.{op-fits, op-is, fits-size}
+use Rattle.units.proofs.Sizes.{abs-mul}
+use Rattle.units.proofs.signed.times.Statement.{statement}
+use Rattle.units.proofs.signed.times.Tie as tie
+
+fit : (c : tie.Start) → SFits w64 (_*ℤ_ (c .args .a) (c .args .b))
+fit c = fits-size _ _ (omega (arith, abs-mul (c .args .a) (c .args .b))) (c .pre)
+
+mul-result : tie.Need-mul-result
+mul-result c = op-fits _*ℤ_ (c .fits .a) (c .fits .b) (fit c)
+
+returns : tie.Need-returns
+returns c = op-is _*ℤ_ (c .fits .a) (c .fits .b) (fit c)
+
+pub times-spec : {M : Type 1} → statement M
+times-spec = tie.close (tie.spec mul-result returns)
