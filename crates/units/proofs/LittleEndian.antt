@@ -5,12 +5,17 @@ use mathlib.Core.List.{List}
 use mathlib.Core.Logic.{_⊎_, inl, inr, ⊎-elim}
 use Prim.Native.Nat.{ℕ, zero, suc, _+_, _*_, _-_, _/_, _%_, _^_, _≤_, _<_}
 use native.Mathlib.Omega.{arith}
-use native.Mathlib.Nat.{add-zero, zero-add, suc-add, mul-add, mul-comm, mul-assoc, one-mul, mul-le-mul-left, pow-succ', pow-zero, div-one, mod-one, div-div-eq-div-mul}
+use native.Mathlib.Nat.{add-zero, zero-add, suc-add, mul-add, mul-comm, mul-assoc, one-mul, mul-le-mul-left, pow-succ', pow-zero, div-one, mod-one, mod-eq-of-lt, div-div-eq-div-mul}
 use native.Mathlib.Numerals.{add-one}
 use lib.Arith.{mod-mul}
 use lib.ListN.{length, getD, set, length-set}
 use lib.Seq.{getD-set-same, getD-set-other}
-use lib.Pow.{pow-add}
+use lib.IntN.{ℤ, pos, negsuc}
+use lib.Pow.{pow-add, not-mod}
+use mir.Syntax.{Width, w64}
+use mir.Val.{SFits, bits, toZ, ofZ}
+use mir.Facts.{toZ-ofZ, fits-ofZ}
+use mir.ValLaws.{half-full}
 use Rattle.units.specs.Bytes.{littleEndian, stored, Holds}
 
 -- 256 ^ n is above 0
@@ -67,3 +72,21 @@ stored-read (suc n) s at v h =
     let first = stored-else n (set s at (v % 256)) (at + 1) (v / 256) at (inl (omega arith)) ∙ getD-set-same s at (v % 256) 0 (omega arith) in
     let rest = stored-read n (set s at (v % 256)) (at + 1) (v / 256) (simp length-set (omega arith)) in
     rw (first, rest, pow-succ' 256 n, mul-comm 256 (256 ^ n), mod-mul v {m = 256 ^ n} {c = 256} (pow-above n) (omega arith)) (omega arith)
+
+-- ---- numbers with a sign
+
+-- the lower k bits of a number below zero
+low-below : (j k m : ℕ) → m < 2 ^ k → (2 ^ (j + k) - suc m) % 2 ^ k ≡ 2 ^ k - suc m
+low-below j k m h = (ap (λ (n : ℕ). n % 2 ^ k) (one-off (2 ^ (j + k)))) ∙ not-mod j k h ∙ sym (one-off (2 ^ k))
+  where
+    one-off : (n : ℕ) → n - suc m ≡ n - 1 - m
+    one-off n = omega arith
+
+-- a number with a sign that was stored in n bytes, at the width w of so many and j bits below an i64's, is read back: for an
+-- i32 `signed-read w32 32 4 refl refl`, for an i64 `signed-read w64 0 8 refl refl`
+pub signed-read : (w : Width) (j n : ℕ) → j + bits w ≡ bits w64 → 256 ^ n ≡ 2 ^ bits w → (s : List ℕ) (at : ℕ) (z : ℤ) → SFits w z → at + n ≤ length s → toZ w (littleEndian n (stored n s at (ofZ w64 z)) at) ≡ z
+signed-read w j n wide whole s at z f h = ap (toZ w) (stored-read n s at (ofZ w64 z) h ∙ ap (λ (m : ℕ). ofZ w64 z % m) whole ∙ low z f) ∙ toZ-ofZ f
+  where
+    low : (z : ℤ) → SFits w z → ofZ w64 z % 2 ^ bits w ≡ ofZ w z
+    low (pos m) f = mod-eq-of-lt (fits-ofZ f .fits)
+    low (negsuc m) f = ap (λ (k : ℕ). (2 ^ k - suc m) % 2 ^ bits w) (sym wide) ∙ low-below j (bits w) m (half-full w (f .sfits))

@@ -2,12 +2,12 @@
 -- law for every operation at every width. Assumes nothing.
 use mathlib.Core.Path.{_≡_, refl, ap}
 use native.Mathlib.Omega.{arith}
-use borrow.Author.Tests.{le-ltb, leb-false}
-use mathlib.Core.Bool.{true, false, false≢true}
-use Prim.Native.Nat.{ℕ, zero, suc, _≤_, _<_, _^_}
+use borrow.Author.Tests.{le-ltb, leb-false, ltb-true}
+use mathlib.Core.Bool.{true, false, false≢true, true≢false}
+use Prim.Native.Nat.{ℕ, zero, suc, _-_, _≤_, _<_, _^_}
 use lib.IntN.{ℤ, pos, negsuc, natAbs, _-ℤ_}
 use lib.Dec.{T}
-use lib.Signed.{leZ, mag, nonNeg}
+use lib.Signed.{leZ, ltZ, mag, nonNeg}
 use mir.Syntax.{Width, w64}
 use mir.Val.{Fits, SFits, toZ, ofZ}
 use mir.Facts.{toZ-ofZ}
@@ -51,3 +51,18 @@ pub record Below (z : ℤ) : Type 0 where
 pub below : (z : ℤ) → SFits w64 z → leZ (pos 0) z ≡ false → Below z
 below (pos n) f e = absurd (omega (arith, leb-false 0 n e))
 below (negsuc n) f e = record { n = n; is = refl; small = f .sfits }
+
+-- ---- the bits of an i64, by its sign
+
+pub record BitsBelow (z : ℤ) : Type 0 where
+  pub some : 0 < natAbs z
+  pub few : natAbs z ≤ 2 ^ 63
+  pub bits : 18446744073709551615 - (natAbs z - 1) ≡ ofZ w64 z
+
+pub bits-below : (z : ℤ) → SFits w64 z → ltZ z (pos 0) ≡ true → BitsBelow z
+bits-below (pos n) f e = absurd (omega (arith, ltb-true n 0 e))
+bits-below (negsuc n) f e = record { some = omega arith; few = omega (arith, f .sfits); bits = omega (arith, f .sfits) }
+
+pub bits-not-below : (z : ℤ) → ltZ z (pos 0) ≡ false → natAbs z ≡ ofZ w64 z
+bits-not-below (pos n) e = refl
+bits-not-below (negsuc n) e = absurd (true≢false e)

@@ -2,7 +2,10 @@
 -- language's own reading, `toZ w`, and the bits of such a number are `ofZ w`. Assumes nothing.
 use mathlib.Core.Path.{_≡_}
 use mathlib.Core.List.{List}
-use Prim.Native.Nat.{ℕ, zero, suc, _+_, _*_, _/_, _%_, _^_, _<_}
+use Prim.Native.Nat.{ℕ, zero, suc, _+_, _*_, _-_, _/_, _%_, _^_, _<_}
+use mir.Val.{sel}
+use lib.Dec.{ltb}
+use lib.IntN.{ℤ, pos, negsuc}
 use lib.ListN.{getD, set}
 
 -- what the n bytes of s from `at` on hold
@@ -19,3 +22,7 @@ stored (suc n) s at v = stored n (set s at (v % 256)) (at + 1) (v / 256)
 pub record Holds (n : ℕ) (s : List ℕ) (at r : ℕ) : Type 0 where
   pub value : r ≡ littleEndian n s at
   pub small : r < 256 ^ n
+
+-- what the bits n say as a number with a sign, where patterns from `half` on stand for the negative ones: `toZ w` over the half
+abbrev pub twosComplement : ℕ → ℕ → ℤ
+twosComplement half n = sel (ltb n half) (pos n) (negsuc (half + half - suc n))
