@@ -1,1 +1,4 @@
 pub mod Network
+pub mod Sample
+pub mod Bound
+pub mod Search
