@@ -1,3 +1,7 @@
 pub mod Curves
 pub mod Companions
 pub mod Compare
+pub mod Hold
+pub mod Lowering
+pub mod Descend
+pub mod Settle
