@@ -9,11 +9,8 @@ use Rattle.units.specs.Voltage.{voltageLimit}
 use Rattle.units.proofs.Integers.{up, dn, signs, pos-law, abs-law, eq-out, Rise, Reach, decideN}
 use Rattle.network.specs.Network.{Network, Fixed, Free, net, held, steepest, Wired}
 use Rattle.network.specs.Sample.{Drives, Legal, Low, Above}
+use Rattle.network.proofs.Nodes.{by-node}
 use Rattle.network.proofs.Compare.{AtMost, compare}
-
--- a node up to n is fixed or free
-pub by-node : (N : Network) (P : ℕ → Type 0) → ((j : ℕ) → Fixed N j → P j) → ((j : ℕ) → Free N j → P j) → (j : ℕ) → j ≤ N .nodes → P j
-by-node N P fixed free j there = ⊎-elim (λ (f : j ≤ N .driven). fixed j f) (λ (f : N .driven < j). free j (f, there)) (decideN j (N .driven))
 
 -- some number that w is nowhere more above u
 apart : (ℕ → ℤ) → (ℕ → ℤ) → ℕ → ℕ

@@ -1,3 +1,4 @@
+pub mod Nodes
 pub mod Curves
 pub mod Companions
 pub mod Compare
@@ -5,3 +6,7 @@ pub mod Hold
 pub mod Lowering
 pub mod Descend
 pub mod Settle
+pub mod Certify
+pub mod Outcome
+pub mod Exists
+pub mod Louder

@@ -46,12 +46,16 @@ pub data Sank (N : Network) (x s : ℕ → ℤ) : (ℕ → ℤ) → Type 0 where
 unfoldable pub raised : Network → (ℕ → ℤ) → ℕ → ℤ
 raised N z j = cond (ltb (N .driven) j && (leb j (N .nodes) && ltZ (z j) (pos voltageLimit))) (z j +ℤ pos 1) (z j)
 
--- the visit has come to s: a node is either back at z, or still waits one above it
+-- a node that waits to be visited stands one above z, a free node below the top
+abbrev pub Waits : Network → (ℕ → ℤ) → (ℕ → ℤ) → ℕ → Type 0
+Waits N z s j = (s j ≡ z j +ℤ pos 1) × Free N j × (z j <ℤ pos voltageLimit)
+
+-- the visit has come to s: the nodes visited, and those that were never raised, are at z, and the others wait
 pub record Visit (N : Network) (x z s : ℕ → ℤ) : Type 0 where
   pub sank : Sank N x (raised N z) s
-  pub each : (j : ℕ) → (s j ≡ z j) ⊎ ((s j ≡ z j +ℤ pos 1) × Free N j × z j <ℤ pos voltageLimit)
+  pub each : (j : ℕ) → (s j ≡ z j) ⊎ Waits N z s j
 
--- the visit gets through: no node waits
+-- the visit gets through: it comes to a place where no node waits
 pub record Through (N : Network) (x z : ℕ → ℤ) : Type 0 where
   pub s : ℕ → ℤ
   pub visit : Visit N x z s
