@@ -10,3 +10,4 @@ pub mod Certify
 pub mod Outcome
 pub mod Exists
 pub mod Louder
+pub mod Demand3

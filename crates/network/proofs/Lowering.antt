@@ -8,22 +8,25 @@ use native.Mathlib.Omega.{arith}
 use lib.Dec.{eqb}
 use lib.ListN.{length, set}
 use lib.Seq.{getD-set-same, getD-set-other}
-use borrow.Author.Tests.{eqb-true, eqb-false, eq-eqb}
+use borrow.Author.Tests.{eqb-true, eqb-false}
 use lib.IntN.{ℤ, pos, _-ℤ_}
 use lib.Signed.{_≤ℤ_}
 use Rattle.units.proofs.Integers.{signs, sub-law, pos-law}
 use Rattle.network.specs.Network.{reading}
 use Rattle.network.specs.Search.{lowered}
 
+-- a change at one node i: node j is that one, or it is as it was
+pub one-node : (i j : ℕ) (a b : ℤ) → ((j ≡ i) × (cond (eqb j i) a b ≡ a)) ⊎ ((j ≡ i → ⊥) × (cond (eqb j i) a b ≡ b))
+one-node i j a b = go (eqb j i) refl
+  where
+    go : (t : Bool) → eqb j i ≡ t → ((j ≡ i) × (cond t a b ≡ a)) ⊎ ((j ≡ i → ⊥) × (cond t a b ≡ b))
+    go true e = inl (eqb-true j i e, refl)
+    go false e = inr (eqb-false j i e, refl)
+
 module _ (w : ℕ → ℤ) (i t : ℕ) where
-  -- node j is the lowered one, or it is as it was
   pub lowered-law : (j : ℕ) → ((j ≡ i) × (lowered w i t j ≡ w j -ℤ pos t)) ⊎ ((j ≡ i → ⊥) × (lowered w i t j ≡ w j))
   unfolding lowered
-  lowered-law j = go (eqb j i) refl
-    where
-      go : (b : Bool) → eqb j i ≡ b → ((j ≡ i) × (cond b (w j -ℤ pos t) (w j) ≡ w j -ℤ pos t)) ⊎ ((j ≡ i → ⊥) × (cond b (w j -ℤ pos t) (w j) ≡ w j))
-      go true e = inl (eqb-true j i e, refl)
-      go false e = inr (eqb-false j i e, refl)
+  lowered-law j = one-node i j (w j -ℤ pos t) (w j)
 
   pub lowered-here : lowered w i t i ≡ w i -ℤ pos t
   lowered-here = ⊎-elim (λ (e : (i ≡ i) × (lowered w i t i ≡ w i -ℤ pos t)). e .1) (λ (e : (i ≡ i → ⊥) × (lowered w i t i ≡ w i)). absurd (e .0 refl)) (lowered-law i)
