@@ -11,3 +11,4 @@ pub mod Outcome
 pub mod Exists
 pub mod Louder
 pub mod Demand3
+pub mod Ranges
