@@ -12,3 +12,4 @@ pub mod Exists
 pub mod Louder
 pub mod Demand3
 pub mod Ranges
+pub mod Cases

@@ -2,3 +2,4 @@ pub mod Network
 pub mod Sample
 pub mod Bound
 pub mod Search
+pub mod Cases
