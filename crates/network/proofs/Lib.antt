@@ -1,0 +1,15 @@
+pub mod Nodes
+pub mod Curves
+pub mod Companions
+pub mod Compare
+pub mod Hold
+pub mod Lowering
+pub mod Descend
+pub mod Settle
+pub mod Certify
+pub mod Outcome
+pub mod Exists
+pub mod Louder
+pub mod Demand3
+pub mod Ranges
+pub mod Cases

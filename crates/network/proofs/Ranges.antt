@@ -1,0 +1,189 @@
+-- Numbers that fit: within document 01's limits every current, every partial sum of a net current and every new stored current fits an i64. Assumes nothing.
+use mathlib.Core.Path.{_≡_, refl, sym, _∙_, ap}
+use mathlib.Core.Bool.{Bool, true, false, cond}
+use mathlib.Core.List.{List, [], _∷_}
+use mathlib.Core.Logic.{⊎-elim}
+use Prim.Native.Nat.{ℕ, zero, suc, _+_, _*_, _^_, _≤_, _<_}
+use native.Mathlib.Omega.{arith}
+use native.Mathlib.Nat.{le-refl, mul-le-mul}
+use lib.Dec.{eqb, leb}
+use lib.ListN.{length, getD}
+use lib.IntN.{ℤ, pos, negℤ, natAbs, _+ℤ_, _-ℤ_, _*ℤ_}
+use lib.Signed.{_≤ℤ_, _<ℤ_}
+use Rattle.units.specs.Integer.{lower, higher, sum, total}
+use Rattle.units.specs.Voltage.{voltageLimit, driveLimit, Within, InRange}
+use Rattle.units.proofs.Integers.{up, dn, signs, sub-law, pos-law, abs-law, decide, ordered, crossed, scale-one}
+use Rattle.units.proofs.Sizes.{abs-within, abs-add, abs-sub, abs-neg, abs-mul, sum-abs, total-small}
+use Rattle.network.specs.Network.{Law, conductance, curve, Store, nothing, capacitor, inductor, Branch, Network, Free, reading, ramp, current, pick, leaving, net, greatest, conductanceOf, steepestOf, heldBy, steepestBy, held, steepest, advance, next, branchLimit, conductanceLimit, breakpointLimit, storedLimit, leakLimit, CurveInLimits, LawInLimits, InLimits}
+use Rattle.network.specs.Sample.{Legal, DrivesLegal}
+use Rattle.network.proofs.Nodes.{by-node}
+use Rattle.network.proofs.Compare.{current-steep}
+
+-- a current stays within this: 3 × 2^56
+abbrev pub currentBound : ℕ
+currentBound = conductanceLimit * breakpointLimit + storedLimit
+
+-- ---- one product, one curve
+
+-- a conductance or a slope times a difference of two voltages, or a breakpoint
+pub product-fits : (g : ℕ) (v : ℤ) → g ≤ conductanceLimit → Within breakpointLimit v → natAbs (pos g *ℤ v) ≤ 2 ^ 56
+product-fits g v small near =
+    let m : g * natAbs v ≤ conductanceLimit * breakpointLimit = mul-le-mul small near in
+    omega (arith, abs-mul (pos g) v)
+
+pub difference-fits : (a b : ℤ) → InRange a → InRange b → Within breakpointLimit (a -ℤ b)
+difference-fits a b ra rb = omega (arith, abs-sub a b)
+
+lower-within : (L : ℕ) (a b : ℤ) → Within L a → Within L b → Within L (lower a b) × Within L (higher a b)
+lower-within L a b ha hb = ⊎-elim
+    (λ (h : a ≤ℤ b). (rw (ordered a b h .0) ha, rw (ordered a b h .1) hb))
+    (λ (h : b <ℤ a). (rw (crossed a b (omega signs) .0) hb, rw (crossed a b (omega signs) .1) ha)) (decide a b)
+
+-- a walk along a curve from the left adds up to at most 2^56 a stretch
+walk-small : (ss : List ℕ) (bs : List ℤ) (v : ℤ) → ((j : ℕ) → getD ss j 0 ≤ conductanceLimit) → ((j : ℕ) → Within breakpointLimit (reading bs j)) → Within breakpointLimit v → natAbs (ramp 1 ss bs v) ≤ length ss * 2 ^ 56
+unfolding ramp
+walk-small [] bs v slope breakpoint near = omega arith
+walk-small (s ∷ ss) [] v slope breakpoint near = omega (arith, product-fits s v (slope 0) near)
+walk-small (s ∷ ss) (b ∷ bs) v slope breakpoint near =
+    let c = pos 1 *ℤ b in
+    let k : Within breakpointLimit c = rw (scale-one b) (breakpoint 0) in
+    let both = lower-within breakpointLimit v c near k in
+    omega (
+      arith,
+      abs-add (pos s *ℤ lower v c) (ramp 1 ss bs (higher v c)),
+      product-fits s (lower v c) (slope 0) (both .0),
+      walk-small ss bs (higher v c) (λ j. slope (suc j)) (λ j. breakpoint (suc j)) (both .1),
+    )
+
+pub walk-fits : (ss : List ℕ) (bs : List ℤ) (v : ℤ) → CurveInLimits ss bs → Within breakpointLimit v → natAbs (ramp 1 ss bs v) ≤ 17 * 2 ^ 56
+walk-fits ss bs v limits near = omega (arith, walk-small ss bs v (limits .slope) (limits .breakpoint) near)
+
+greatest-small : (ss : List ℕ) (L : ℕ) → ((j : ℕ) → getD ss j 0 ≤ L) → greatest ss ≤ L
+unfolding greatest
+greatest-small [] L h = omega arith
+greatest-small (s ∷ ss) L h = omega (arith, h 0, greatest-small ss L (λ j. h (suc j)))
+
+pub steepest-of-small : (l : Law) → LawInLimits l → steepestOf l ≤ conductanceLimit
+unfolding steepestOf
+steepest-of-small (conductance g) h = h .1
+steepest-of-small (curve ss bs) h = greatest-small ss conductanceLimit (h .slope)
+
+conductance-of-small : (l : Law) → LawInLimits l → conductanceOf l ≤ conductanceLimit
+unfolding conductanceOf
+conductance-of-small (conductance g) h = h .1
+conductance-of-small (curve ss bs) h = omega arith
+
+-- a curve's current is at most its greatest slope times the voltage
+curve-small : (k : ℕ) (ss : List ℕ) (bs : List ℤ) (x v : ℤ) → natAbs (current k (curve ss bs) x v) ≤ greatest ss * natAbs v
+unfolding current steepestOf
+curve-small k ss bs x v =
+    let f = ramp k ss bs in
+    let S = greatest ss in
+    let a = current-steep k (curve ss bs) x (pos 0) v (up v) (omega (arith, pos-law 0)) in
+    let b = current-steep k (curve ss bs) x v (pos 0) (dn v) (omega (arith, pos-law 0)) in
+    abs-within (f v -ℤ f (pos 0)) (S * natAbs v)
+    (omega (arith, ap (λ (n : ℕ). S * n) (abs-law v), sub-law (f (pos 0)) (f (pos 0))))
+    (omega (arith, ap (λ (n : ℕ). S * n) (abs-law v), sub-law (f (pos 0)) (f (pos 0))))
+
+current-small : (l : Law) (x v : ℤ) → LawInLimits l → Within breakpointLimit v → Within storedLimit x → natAbs (current 1 l x v) ≤ currentBound
+unfolding current steepestOf
+current-small (conductance g) x v h near kept = omega (arith, product-fits g v (h .1) near, abs-sub (pos g *ℤ v) (pos 1 *ℤ x), abs-mul (pos 1) x)
+current-small (curve ss bs) x v h near kept =
+    let m : greatest ss * natAbs v ≤ conductanceLimit * breakpointLimit = mul-le-mul (greatest-small ss conductanceLimit (h .slope)) near in
+    omega (arith, curve-small 1 ss bs x v)
+
+advance-small : (s : Store) (g : ℕ) (x v : ℤ) → g ≤ conductanceLimit → Within breakpointLimit v → Within storedLimit x → natAbs (advance s g x v) ≤ 2 ^ 58
+unfolding advance
+advance-small nothing g x v small near kept = omega arith
+advance-small capacitor g x v small near kept = omega (arith, abs-sub (pos (2 * g) *ℤ v) x, abs-mul (pos (2 * g)) v, abs-mul (pos g) v, product-fits g v small near)
+advance-small inductor g x v small near kept = omega (arith, abs-sub x (pos (2 * g) *ℤ v), abs-mul (pos (2 * g)) v, abs-mul (pos g) v, product-fits g v small near)
+
+-- ---- a network within limits
+
+-- legal voltages, drives included, are in range
+pub legal-in-range : (N : Network) (d v : ℕ → ℤ) → Legal N d v → DrivesLegal N d → (j : ℕ) → j ≤ N .nodes → InRange (v j)
+legal-in-range N d v legal drives = by-node N (λ (j : ℕ). InRange (v j)) fixed (λ j f. legal .range j f)
+  where
+    fixed : (j : ℕ) → j ≤ N .driven → InRange (v j)
+    fixed zero f = rw (legal .drives .ground) (omega arith)
+    fixed (suc j) f = rw (legal .drives .driven j f ∙ scale-one (d j)) (omega (arith, drives j f))
+
+module _ (N : Network) (limits : InLimits N) where
+  pub steepest-fits : (i : ℕ) → steepest N i < 2 ^ 36
+  unfolding steepest steepestBy
+  steepest-fits i =
+      let s : N .count * conductanceLimit ≤ branchLimit * conductanceLimit = mul-le-mul (limits .few-branches) (le-refl conductanceLimit) in
+      omega (arith, limits .leak-small, total-small (λ (j : ℕ). steepestBy (N .branch j) i) conductanceLimit (N .count) each)
+    where
+      each : (j : ℕ) → j < N .count → steepestBy (N .branch j) i ≤ conductanceLimit
+      each j l = go (eqb i (N .branch j .p)) (eqb i (N .branch j .q))
+        where
+          g : ℕ
+          g = steepestOf (N .branch j .law)
+
+          go : (p q : Bool) → pick p q g g 0 ≤ conductanceLimit
+          go true q = steepest-of-small (N .branch j .law) (limits .laws j l)
+          go false true = steepest-of-small (N .branch j .law) (limits .laws j l)
+          go false false = omega arith
+
+  pub held-fits : (i : ℕ) → held N i < 2 ^ 36
+  unfolding held heldBy
+  held-fits i =
+      let s : N .count * conductanceLimit ≤ branchLimit * conductanceLimit = mul-le-mul (limits .few-branches) (le-refl conductanceLimit) in
+      omega (arith, limits .leak-small, total-small (λ (j : ℕ). heldBy N (N .branch j) i) conductanceLimit (N .count) each)
+    where
+      each : (j : ℕ) → j < N .count → heldBy N (N .branch j) i ≤ conductanceLimit
+      each j l = go (eqb i (N .branch j .p)) (eqb i (N .branch j .q)) (leb (N .branch j .q) (N .driven)) (leb (N .branch j .p) (N .driven))
+        where
+          g : ℕ
+          g = conductanceOf (N .branch j .law)
+
+          small : (b : Bool) → cond b g 0 ≤ conductanceLimit
+          small true = conductance-of-small (N .branch j .law) (limits .laws j l)
+          small false = omega arith
+
+          go : (p q a b : Bool) → pick p q (cond a g 0) (cond b g 0) 0 ≤ conductanceLimit
+          go true q a b = small a
+          go false true a b = small b
+          go false false a b = omega arith
+
+  module _ (x w : ℕ → ℤ) (kept : (j : ℕ) → j < N .count → Within storedLimit (x j)) (range : (j : ℕ) → j ≤ N .nodes → InRange (w j)) where
+    -- the voltage of a branch
+    abbrev across : ℕ → ℤ
+    across j = w (N .branch j .p) -ℤ w (N .branch j .q)
+
+    across-fits : (j : ℕ) → j < N .count → Within breakpointLimit (across j)
+    across-fits j l = difference-fits (w (N .branch j .p)) (w (N .branch j .q)) (range (N .branch j .p) (limits .wired .p-there j l)) (range (N .branch j .q) (limits .wired .q-there j l))
+
+    pub current-fits : (j : ℕ) → j < N .count → natAbs (current 1 (N .branch j .law) (x j) (w (N .branch j .p) -ℤ w (N .branch j .q))) ≤ currentBound
+    current-fits j l = current-small (N .branch j .law) (x j) (across j) (limits .laws j l) (across-fits j l) (kept j l)
+
+    pub leaving-fits : (i j : ℕ) → j < N .count → natAbs (leaving 1 (N .branch j) (x j) w i) ≤ currentBound
+    unfolding leaving
+    leaving-fits i j l = go (eqb i (N .branch j .p)) (eqb i (N .branch j .q))
+      where
+        c : ℤ
+        c = current 1 (N .branch j .law) (x j) (w (N .branch j .p) -ℤ w (N .branch j .q))
+
+        go : (p q : Bool) → natAbs (pick p q c (negℤ c) (pos 0)) ≤ currentBound
+        go true q = current-fits j l
+        go false true = omega (arith, current-fits j l, abs-neg c)
+        go false false = omega arith
+
+    -- the sum after any number of branches, without the leak and with it
+    pub partial-sum-fits : (i j : ℕ) → i ≤ N .nodes → j ≤ N .count → (natAbs (sum (λ (m : ℕ). leaving 1 (N .branch m) (x m) w i) j) < 2 ^ 63) × (natAbs (pos (N .leak) *ℤ w i +ℤ sum (λ (m : ℕ). leaving 1 (N .branch m) (x m) w i) j) < 2 ^ 63)
+    partial-sum-fits i j there l =
+        let f : ℕ → ℤ = λ m. leaving 1 (N .branch m) (x m) w i in
+        let m : N .leak * natAbs (w i) ≤ leakLimit * voltageLimit = mul-le-mul (limits .leak-small) (range i there) in
+        let c : j ≤ branchLimit = omega (arith, limits .few-branches) in
+        let s : j * currentBound ≤ branchLimit * currentBound = mul-le-mul c (le-refl currentBound) in
+        let b = sum-abs f currentBound j (λ n k. leaving-fits i n (omega arith)) in
+        (omega arith, omega (arith, abs-add (pos (N .leak) *ℤ w i) (sum f j), abs-mul (pos (N .leak)) (w i)))
+
+    pub net-fits : (i : ℕ) → i ≤ N .nodes → natAbs (net 1 N x w i) < 2 ^ 63
+    unfolding net
+    net-fits i there = partial-sum-fits i (N .count) there (le-refl (N .count)) .1
+
+    pub next-fits : (j : ℕ) → j < N .count → natAbs (next N x w j) ≤ 2 ^ 58
+    unfolding next
+    next-fits j l = advance-small (N .branch j .store) (conductanceOf (N .branch j .law)) (x j) (across j) (conductance-of-small (N .branch j .law) (limits .laws j l)) (across-fits j l) (kept j l)
