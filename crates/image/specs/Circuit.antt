@@ -30,11 +30,11 @@ abbrev pub lawOf : ℕ → ℕ → List ℕ → Law
 lawOf kind g bytes = cond (eqb kind diodeKind) (curve (slopesOf bytes) (breakpointsOf bytes)) (conductance g)
 
 -- the branch that element j is, from the arrays of a circuit: where curves start, kinds, ends, conductances, curve indexes
-unfoldable pub element : (image start kind p q g curve : List ℕ) → ℕ → Branch
-element image start kind p q g curve j = record {
+unfoldable pub element : (image start kind p q g index : List ℕ) → ℕ → Branch
+element image start kind p q g index j = record {
   p = getD p j 0;
   q = getD q j 0;
-  law = lawOf (getD kind j 0) (getD g j 0) (curveBytes image (getD start (getD curve j 0) 0));
+  law = lawOf (getD kind j 0) (getD g j 0) (curveBytes image (getD start (getD index j 0) 0));
   store = storeOf (getD kind j 0);
 }
 
