@@ -64,7 +64,7 @@ module _ (N : Network) (x d : ℕ → ℤ) (wired : Wired N) where
       found : (i : ℕ) → Free N i → pos 0 <ℤ net 1 N x (lowered v i 0) i → ((v : ℕ → ℤ) × Answer N x d v) ⊎ Empty N x d
       found i free high = ⊎-elim
           (λ (inside : bottom ≤ℤ (v i -ℤ pos 1)). again (lowered v i 1) (step-settling N x d (topOf N d) v s i 0 wired free high inside)
-          (height-falls N (lowered v i 1) v i (free .1) (lowered-under v i 1) (omega (signs, lowered-here v i 1, sub-law (v i) (pos 1), pos-law 1)) (omega (signs, sub-law (v i) (pos 1), pos-law 1))))
+          (height-falls N (lowered v i 1) v i (free .1) (λ j l. lowered-under v i 1 j) (omega (signs, lowered-here v i 1, sub-law (v i) (pos 1), pos-law 1)) (omega (signs, sub-law (v i) (pos 1), pos-law 1))))
           (λ (out : (v i -ℤ pos 1) <ℤ bottom). inr (none-empty N x d (topOf N d) above (out-of-range N x d (topOf N d) (lowered v i 1) i (step-covers N x d (topOf N d) v s i 0 wired free high) free (rw (lowered-here v i 1) out))))
           (decide bottom (v i -ℤ pos 1))
 
