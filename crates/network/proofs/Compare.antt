@@ -7,10 +7,10 @@ use Prim.Native.Nat.{ℕ, zero, suc, _+_, _*_, _≤_, _<_}
 use native.Mathlib.Omega.{arith}
 use native.Mathlib.Nat.{le-refl, mul-le-mul-left}
 use lib.Dec.{eqb, leb, eqb→eq, leb→le}
-use lib.IntN.{*ℤ-zero, ℤ, pos, negℤ, _+ℤ_, _-ℤ_, _*ℤ_}
+use lib.IntN.{*ℤ-zero, ℤ, pos, negℤ, _-ℤ_, _*ℤ_}
 use lib.Signed.{_≤ℤ_, _<ℤ_}
 use Rattle.units.specs.Integer.{sum, total}
-use Rattle.units.proofs.Integers.{up, dn, signs, add-law, sub-law, neg-law, scale-law, scale-add, scale-sub, scale-neg, scale-one, scale-scale, Rise, Reach, decide}
+use Rattle.units.proofs.Integers.{signs, add-law, sub-law, neg-law, scale-law, scale-add, scale-sub, scale-neg, scale-one, scale-scale, Rise, Reach, decide}
 use Rattle.network.specs.Network.{Law, conductance, curve, Branch, Network, Fixed, ramp, current, greatest, conductanceOf, steepestOf, pick, leaving, net, heldBy, steepestBy, held, steepest, Wired}
 use Rattle.network.specs.Sample.{Under}
 use Rattle.network.proofs.Curves.{ramp-mono, ramp-steep, ramp-scale}

@@ -7,12 +7,12 @@ use native.Mathlib.Omega.{arith}
 use native.Mathlib.Nat.{le-trans, mul-pos, mul-le-mul, mul-le-mul-left}
 use lib.Dec.{eqb}
 use lib.IntN.{*ℤ-zero, ℤ, pos, natAbs, _+ℤ_, _-ℤ_, _*ℤ_}
-use lib.Signed.{_≤ℤ_, _<ℤ_}
+use lib.Signed.{_≤ℤ_}
 use Rattle.units.specs.Voltage.{voltageLimit}
 use Rattle.units.proofs.Integers.{up, dn, signs, eq-out, add-law, sub-law, pos-law, abs-law, scale-law, scale-one, Rise, Reach, decideN}
 use Rattle.units.proofs.Sizes.{abs-within}
 use Rattle.network.specs.Network.{Network, Fixed, Free, net, held, steepest, Wired, InLimits}
-use Rattle.network.specs.Sample.{Drives, Legal, Low, Under, Answer, BelowTop, Accepted, accepted, Gives}
+use Rattle.network.specs.Sample.{Drives, Legal, Low, Under, Answer, BelowTop, accepted, Gives}
 use Rattle.network.specs.Bound.{Balances, Enough, Close}
 use Rattle.network.proofs.Compare.{steep, scale}
 use Rattle.network.proofs.Hold.{hold, same-fixed, leak-held, leak-steepest}

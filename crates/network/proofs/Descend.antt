@@ -1,14 +1,14 @@
 -- Descend: what sinks does not pass a low assignment. Step and Leap are two ways to use it. Assumes nothing.
-use mathlib.Core.Path.{_≡_, refl, sym, subst}
-use mathlib.Core.Logic.{_⊎_, inl, inr, ⊎-elim}
+use mathlib.Core.Path.{_≡_, sym, subst}
+use mathlib.Core.Logic.{_⊎_, ⊎-elim}
 use mathlib.Core.List.{List}
-use Prim.Native.Nat.{ℕ, zero, suc, _+_, _*_, _-_, _≤_, _<_}
+use Prim.Native.Nat.{ℕ, suc, _+_, _*_, _-_, _≤_, _<_}
 use native.Mathlib.Omega.{arith}
 use lib.ListN.{length, set}
 use lib.IntN.{ℤ, pos, _-ℤ_}
 use lib.Signed.{_≤ℤ_, _<ℤ_}
-use Rattle.units.proofs.Integers.{up, dn, signs, sub-law, pos-law, eq-out, Rise, Reach, decideN}
-use Rattle.network.specs.Network.{Network, Fixed, Free, reading, net, steepest, Wired}
+use Rattle.units.proofs.Integers.{up, dn, signs, sub-law, pos-law, eq-out, Reach, decideN}
+use Rattle.network.specs.Network.{Network, Free, reading, net, steepest, Wired}
 use Rattle.network.specs.Sample.{Drives, Legal, Low, Under}
 use Rattle.network.specs.Search.{lowered, Sank, still, sunk}
 use Rattle.network.proofs.Compare.{AtMost, compare, steep}

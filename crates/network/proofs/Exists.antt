@@ -2,7 +2,7 @@
 use mathlib.Core.Path.{_≡_, refl}
 use mathlib.Core.Bool.{cond}
 use mathlib.Core.Logic.{_⊎_, inl, inr, ⊎-elim}
-use Prim.Native.Nat.{ℕ, zero, suc, _+_, _≤_, _<_}
+use Prim.Native.Nat.{ℕ, zero, suc, _≤_, _<_}
 use native.Mathlib.Omega.{arith}
 use native.Mathlib.Nat.{le-refl}
 use lib.Dec.{leb}
@@ -10,11 +10,11 @@ use borrow.Author.Tests.{le-leb, lt-leb}
 use lib.IntN.{ℤ, pos, natAbs, _-ℤ_, _*ℤ_}
 use lib.Signed.{_≤ℤ_, _<ℤ_}
 use Rattle.units.specs.Voltage.{voltageLimit, driveLimit}
-use Rattle.units.proofs.Integers.{signs, sub-law, neg-law, pos-law, abs-law, decide, decideN}
+use Rattle.units.proofs.Integers.{signs, sub-law, pos-law, abs-law, decide, decideN}
 use Rattle.network.specs.Network.{Network, Free, net, next, Wired, storedLimit}
 use Rattle.network.specs.Sample.{Drives, Legal, Low, Answer, Empty, AtTop, BelowTop, Outcome, accepted, driveRefused, railRefused, storedRefused, DrivesLegal, Gives}
-use Rattle.network.specs.Search.{Settling, NoneUnder, lowered}
-use Rattle.network.proofs.Nodes.{by-node, find}
+use Rattle.network.specs.Search.{Settling, lowered}
+use Rattle.network.proofs.Nodes.{find}
 use Rattle.network.proofs.Hold.{top-start}
 use Rattle.network.proofs.Lowering.{lowered-here, lowered-under, lowered-none}
 use Rattle.network.proofs.Settle.{bottom, settling-start, settled-answer, none-empty, out-of-range, step-covers, step-settling, height, height-falls}

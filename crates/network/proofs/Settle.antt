@@ -1,20 +1,19 @@
 -- Settle: from voltages z, by Step and Leap, to the greatest legal low assignment under z, or that there is none. `Settling` is what holds all along,
 -- `height` is what falls. From a start (Hold) what is settled is the answer. The list forms speak of `set` and `reading`. Assumes nothing.
 use mathlib.Core.Path.{_≡_, refl, sym, subst}
-use mathlib.Core.Bool.{Bool, true, false, cond}
 use mathlib.Core.List.{List}
-use mathlib.Core.Logic.{_⊎_, inl, inr, ⊎-elim}
-use Prim.Native.Nat.{ℕ, zero, suc, _+_, _*_, _-_, _≤_, _<_}
+use mathlib.Core.Logic.{_⊎_, inl, ⊎-elim}
+use Prim.Native.Nat.{ℕ, zero, suc, _+_, _*_, _≤_, _<_}
 use native.Mathlib.Omega.{arith}
 use lib.ListN.{length, set}
 use lib.IntN.{ℤ, pos, negℤ, natAbs, _+ℤ_, _-ℤ_}
 use lib.Signed.{_≤ℤ_, _<ℤ_}
 use Rattle.units.specs.Integer.{total, roundedUp}
-use Rattle.units.specs.Voltage.{voltageLimit, InRange}
+use Rattle.units.specs.Voltage.{voltageLimit}
 use Rattle.units.proofs.Integers.{up, dn, signs, add-law, sub-law, neg-law, pos-law, abs-law, one-sided, parts, decideN}
 use Rattle.units.proofs.Sizes.{abs-within, rounded-up-law}
 use Rattle.network.specs.Network.{Network, Fixed, Free, reading, net, steepest, Wired}
-use Rattle.network.specs.Sample.{Drives, Legal, Low, Under, Above, Answer, Empty}
+use Rattle.network.specs.Sample.{Drives, Legal, Under, Above, Answer, Empty}
 use Rattle.network.specs.Search.{Covers, Settling, Settled, NoneUnder, lowered, Sank, still, sunk}
 use Rattle.network.proofs.Hold.{keep-drives, leak-steepest}
 use Rattle.network.proofs.Lowering.{lowered-law, lowered-here, lowered-under, store-lowers}

@@ -5,7 +5,7 @@ use mathlib.Core.Logic.{_⊎_}
 use Prim.Native.Nat.{ℕ, suc, _≤_}
 use lib.Dec.{eqb, leb, ltb}
 use lib.IntN.{ℤ, pos, _+ℤ_, _-ℤ_}
-use lib.Signed.{_≤ℤ_, _<ℤ_, ltZ}
+use lib.Signed.{_<ℤ_, ltZ}
 use Rattle.units.specs.Voltage.{voltageLimit}
 use Rattle.network.specs.Network.{Network, Free, net}
 use Rattle.network.specs.Sample.{Legal, Low, Under}
