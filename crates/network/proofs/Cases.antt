@@ -195,10 +195,13 @@ module _ (c : Circuit) (stored drives : List ℤ) (ok : T (allOf (sampleTests c 
       free P h i f = let e : i ≡ suc (c .driven) = omega arith in rw (e, voltages-free z) h
 
   rail-sound : T (allOf (resultTests c stored drives rail)) → Gives N (reading stored) (reading drives) (outcomeOf drives rail)
-  rail-sound h = record { drives = sample-drives; rail = ⊎-elim
-      (λ (t : T under). inl (none-at N (reading stored) (reading drives) sample-wired refl (voltages drives (negℤ (pos voltageLimit))) (voltages-drives _) (voltages-free _) (record { lt = t })))
-      (λ (t : T full). inr (voltages drives (pos voltageLimit), top-at N (reading stored) (reading drives) sample-wired refl (voltages drives (pos voltageLimit)) (voltages-drives _) (voltages-free _) (record { le = t }), record { node = suc (c .driven); free = omega arith; top = voltages-free _ }))
-      (or-either under full (each (resultTests c stored drives rail) h 0)) }
+  rail-sound h = record {
+    drives = sample-drives;
+    rail = ⊎-elim
+        (λ (t : T under). inl (none-at N (reading stored) (reading drives) sample-wired refl (voltages drives (negℤ (pos voltageLimit))) (voltages-drives _) (voltages-free _) (record { lt = t })))
+        (λ (t : T full). inr (voltages drives (pos voltageLimit), top-at N (reading stored) (reading drives) sample-wired refl (voltages drives (pos voltageLimit)) (voltages-drives _) (voltages-free _) (record { le = t }), record { node = suc (c .driven); free = omega arith; top = voltages-free _ }))
+        (or-either under full (each (resultTests c stored drives rail) h 0));
+  }
     where
       under : Bool
       under = ltZ (pos 0) (netAt c stored drives (negℤ (pos voltageLimit)))

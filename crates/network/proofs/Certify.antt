@@ -48,6 +48,20 @@ raised-law N z j = go (ltb (N .driven) j) (leb j (N .nodes)) (ltZ (z j) (pos vol
     go true false c p q r = inr (refl, λ f. absurd (omega (arith, leb-false j (N .nodes) q)))
     go false b c p q r = inr (refl, λ f. absurd (omega (arith, ltb-false (N .driven) j p)))
 
+-- what a loop that raises a list has to meet
+module _ (N : Network) (z : ℕ → ℤ) (j : ℕ) where
+  pub raised-free : Free N j → z j <ℤ pos voltageLimit → raised N z j ≡ z j +ℤ pos 1
+  unfolding Lifted Kept
+  raised-free free below = ⊎-elim (λ (h : Lifted N z j). h .0) (λ (h : Kept N z j). absurd (omega (signs, h .1 free))) (raised-law N z j)
+
+  pub raised-top : pos voltageLimit ≤ℤ z j → raised N z j ≡ z j
+  unfolding Lifted Kept
+  raised-top top = ⊎-elim (λ (h : Lifted N z j). absurd (omega (signs, h .2))) (λ (h : Kept N z j). h .0) (raised-law N z j)
+
+  pub raised-fixed : Fixed N j → raised N z j ≡ z j
+  unfolding Lifted Kept
+  raised-fixed fixed = ⊎-elim (λ (h : Lifted N z j). absurd (omega (arith, h .1))) (λ (h : Kept N z j). h .0) (raised-law N z j)
+
 module _ (N : Network) (x z : ℕ → ℤ) where
   -- s is z raised, as the code has stored it
   pub visit-start : (s : ℕ → ℤ) → ((j : ℕ) → j ≤ N .nodes → s j ≡ raised N z j) → Visit N x z s
@@ -125,7 +139,7 @@ module _ (N : Network) (x d z : ℕ → ℤ) (wired : Wired N) (legal : Legal N 
       s = through .place
 
       start-drives : Drives 1 N d (raised N z)
-      start-drives = keep-drives z (raised N z) (legal .drives) (λ j f. ⊎-elim (λ (h : Lifted N z j). absurd (omega (arith, h .1))) (λ (h : Kept N z j). h .0) (raised-law N z j))
+      start-drives = keep-drives z (raised N z) (legal .drives) (raised-fixed N z)
 
       highest : (w : ℕ → ℤ) → Legal N d w → Low N x w → Under N w z
       highest w lw low-w j there =

@@ -64,6 +64,10 @@ module _ (N : Network) (x d₁ d₂ v₁ : ℕ → ℤ) (wired : Wired N) (loude
   pub not-empty : Empty N x d₂ → ⊥
   not-empty none = none moved
       (record { drives = moved-drives; range = λ i f. rw (moved-free i f) (a₁ .legal .range i f) })
-      (λ i f. omega (signs, a₁ .low i f, others-rise 1 N x v₁ moved i wired
-      (by-node N (λ (j : ℕ). v₁ j ≤ℤ moved j) (drives-rise moved moved-drives) (λ j g. omega (signs, moved-free j g)))
-      (omega (signs, moved-free i f))))
+      (λ i f. omega (
+        signs,
+        a₁ .low i f,
+        others-rise 1 N x v₁ moved i wired
+            (by-node N (λ (j : ℕ). v₁ j ≤ℤ moved j) (drives-rise moved moved-drives) (λ j g. omega (signs, moved-free j g)))
+            (omega (signs, moved-free i f)),
+      ))

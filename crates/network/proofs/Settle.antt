@@ -16,7 +16,7 @@ use Rattle.network.specs.Network.{Network, Fixed, Free, reading, net, st
 use Rattle.network.specs.Sample.{Drives, Legal, Under, Above, Answer, Empty}
 use Rattle.network.specs.Search.{Covers, Settling, Settled, NoneUnder, lowered, Sank, still, sunk}
 use Rattle.network.proofs.Hold.{keep-drives, leak-steepest}
-use Rattle.network.proofs.Lowering.{lowered-law, lowered-here, lowered-under, store-lowers}
+use Rattle.network.proofs.Lowering.{lowered-law, lowered-here, lowered-under, lowered-further, store-lowers}
 use Rattle.network.proofs.Descend.{descend, sank-under, sank-drives, lowered-drives, allowed}
 
 -- the bottom of the range
@@ -54,6 +54,15 @@ module _ (N : Network) (x d z v : ℕ → ℤ) (s : Settling N x d z v) where
     covers = covers;
   }
 
+  module _ (i : ℕ) (free : Free N i) where
+    lowered-settling : (t : ℕ) → Covers N x d z (lowered v i t) → bottom ≤ℤ (v i -ℤ pos t) → Settling N x d z (lowered v i t)
+    lowered-settling t covers over = settling-at (lowered v i t) covers (lowered-drives N d v i t free (s .legal .drives)) (λ j l. lowered-under v i t j) range
+      where
+        range : (j : ℕ) → Free N j → bottom ≤ℤ lowered v i t j
+        range j f = ⊎-elim
+            (λ (e : (j ≡ i) × (lowered v i t j ≡ v j -ℤ pos t)). rw (e .1, e .0) over)
+            (λ (e : (j ≡ i → ⊥) × (lowered v i t j ≡ v j)). omega (signs, neg-law (pos voltageLimit), pos-law voltageLimit, s .legal .range j f, abs-law (v j))) (lowered-law v i t j)
+
   -- ---- Step: node i lowered by r + 1, where one evaluation shows its net current above zero when lowered by r
   module _ (i r : ℕ) (wired : Wired N) (free : Free N i) (high : pos 0 <ℤ net 1 N x (lowered v i r) i) where
     pub step-covers : Covers N x d z (lowered v i (suc r))
@@ -61,12 +70,11 @@ module _ (N : Network) (x d z v : ℕ → ℤ) (s : Settling N x d z v) where
         descend N x d v v (lowered v i (suc r)) w wired (s .legal .drives) (sunk i r (still (λ j l. refl)) free high) (λ j l. inl (omega signs)) legal low (s .covers w legal low under)
 
     pub step-settling : bottom ≤ℤ (v i -ℤ pos (suc r)) → Settling N x d z (lowered v i (suc r))
-    step-settling over = settling-at (lowered v i (suc r)) step-covers (lowered-drives N d v i (suc r) free (s .legal .drives)) (λ j l. lowered-under v i (suc r) j) range
-      where
-        range : (j : ℕ) → Free N j → bottom ≤ℤ lowered v i (suc r) j
-        range j f = ⊎-elim
-            (λ (e : (j ≡ i) × (lowered v i (suc r) j ≡ v j -ℤ pos (suc r))). rw (e .1, e .0) over)
-            (λ (e : (j ≡ i → ⊥) × (lowered v i (suc r) j ≡ v j)). omega (signs, neg-law (pos voltageLimit), pos-law voltageLimit, s .legal .range j f, abs-law (v j))) (lowered-law v i (suc r) j)
+    step-settling over = lowered-settling i free (suc r) step-covers over
+
+    -- .. or kept where it was evaluated, to step on from there
+    pub keep-settling : bottom ≤ℤ (v i -ℤ pos r) → Settling N x d z (lowered v i r)
+    keep-settling over = lowered-settling i free r (λ w legal low under j l. omega (signs, step-covers w legal low under j l, lowered-further v i r j)) over
 
   -- ---- Leap: s₁ is v lowered at some free nodes, e sank from it, and is lower than s₁ wherever s₁ is lower than v
   module _ (s₁ e : ℕ → ℤ) (wired : Wired N) (same : (j : ℕ) → Fixed N j → s₁ j ≡ v j) (lower : Under N s₁ v) (sank : Sank N x s₁ e) (falls : (j : ℕ) → j ≤ N .nodes → (v j ≤ℤ s₁ j) ⊎ (e j <ℤ s₁ j)) where
@@ -128,6 +136,9 @@ module _ (N : Network) (x d z : ℕ → ℤ) (l : List ℤ) (i : ℕ) (wired : W
 
     pub step-settling-list : bottom ≤ℤ (reading l i -ℤ pos (suc r)) → Settling N x d z (reading (down (suc r)))
     step-settling-list over = to-store (λ (u : ℕ → ℤ). Settling N x d z u) (suc r) (step-settling N x d z (reading l) s i r wired free still-high over)
+
+    pub keep-settling-list : bottom ≤ℤ (reading l i -ℤ pos r) → Settling N x d z (reading (down r))
+    keep-settling-list over = to-store (λ (u : ℕ → ℤ). Settling N x d z u) r (keep-settling N x d z (reading l) s i r wired free still-high over)
 
   -- and the one that the steepest sum allows
   module _ (leaks : 1 ≤ N .leak) (high : pos 0 <ℤ net 1 N x (reading l) i) where
