@@ -20,7 +20,7 @@ use Rattle.network.proofs.Lowering.{one-node}
 use Rattle.network.proofs.Certify.{climb}
 
 -- An answer below the top misses zero by less than its steepest sum: else it would still be low with node i one microvolt higher
-pub misses-less : (N : Network) (x d v : ℕ → ℤ) (i : ℕ) → Wired N → Answer N x d v → BelowTop N v → Free N i → dn (net 1 N x v i) < up (net 1 N x v i) + steepest N i
+misses-less : (N : Network) (x d v : ℕ → ℤ) (i : ℕ) → Wired N → Answer N x d v → BelowTop N v → Free N i → dn (net 1 N x v i) < up (net 1 N x v i) + steepest N i
 misses-less N x d v i wired a below free = ⊎-elim
     (λ (h : up (net 1 N x v i) + steepest N i ≤ dn (net 1 N x v i)). absurd (clash h))
     (λ (h : dn (net 1 N x v i) < up (net 1 N x v i) + steepest N i). h) (decideN _ _)
@@ -123,15 +123,16 @@ module _ (N : Network) (x d v : ℕ → ℤ) (wired : Wired N) (leaks : 1 ≤ N 
           mul-pos grid (not-zero B (held N i) e (steepest N i) (le-trans leaks (leak-steepest N i)) (enough i free)),
         )
 
--- Demand 3, its words against the statement:
---   "a circuit within the limits"                                      InLimits N
---   "an accepted sample"                                               Gives N x d (accepted v y): stored currents x, drives d, voltages v
---   "on a grid of k-ths, k at least 1"                                 1 ≤ k; breakpoints, drives and stored currents times k are in `net k`
---   "the same drives and stored currents, and at every free node a
---    net current that misses zero by at most e" (compared as k e)      Balances k e N x d w
---   "steepest sum plus e at most B times the held conductance"         Enough N e B, in Close
---   "no free node differs by B microvolts or more"                     Close .bound: |w - k v| < k B, both halves
---   "with e zero ours is never the higher"                             Close .never-higher
+-- Demand 3, clause by clause:
+--   every circuit within document 01's limits                         InLimits N
+--   every accepted sample                                             Gives N x d (accepted v y): stored currents x, drives d, our voltages v
+--   every grid of k-ths, k at least 1                                 1 ≤ k; breakpoints, drives and stored currents times k are in `net k` and `Drives k`
+--   every e, and every assignment on the grid with the same drives
+--   and stored currents whose net current misses zero by at most e    Balances k e N x d w (e compared as k times e)
+--   every B with the steepest sum plus e at most B times the held
+--   conductance at each free node                                     Enough N e B, in Close .bound
+--   no free node differs by B microvolts or more                      Close .bound: |w - k v| < k B, so neither is far above the other
+--   and with e zero ours is never the higher                          Close .never-higher
 pub demand-3 : (N : Network) → InLimits N → (x d v y : ℕ → ℤ) → Gives N x d (accepted v y) → (k : ℕ) → 1 ≤ k → (e : ℕ) (w : ℕ → ℤ) → Balances k e N x d w → Close N v k e w
 demand-3 N limits x d v y sample k grid e w b = record {
   bound = within-bound N x d v (limits .wired) (limits .leaks) (sample .answer) (sample .below) k e w grid b;
