@@ -1,7 +1,7 @@
 -- The table of proved cases holds: one computed test over it, and one lemma that turns the test into what the table says. Assumes nothing.
 use mathlib.Core.Path.{_≡_, refl, sym, _∙_, ap}
-use mathlib.Core.Bool.{Bool, true, false, cond, _&&_, _||_}
-use mathlib.Core.List.{List, [], _∷_, _++_}
+use mathlib.Core.Bool.{Bool, true, false, _&&_, _||_}
+use mathlib.Core.List.{List, [], _∷_}
 use mathlib.Core.Logic.{_⊎_, inl, inr, ⊎-elim}
 use Prim.Native.Nat.{ℕ, zero, suc, _+_, _*_, _-_, _≤_, _<_}
 use native.Mathlib.Omega.{arith}
@@ -14,8 +14,8 @@ use lib.Signed.{_≤ℤ_, _<ℤ_, leZ, ltZ}
 use Rattle.units.specs.Integer.{lower, higher, sum, total}
 use Rattle.units.specs.Voltage.{voltageLimit, driveLimit, within}
 use Rattle.units.proofs.Integers.{up, dn, signs, le-out, eq-out, add-law, neg-law, pos-law, abs-law, scale-one, Reach, decide, decideN}
-use Rattle.network.specs.Network.{Branch, noBranch, Network, Fixed, Free, reading, ramp, current, leaving, net, conductanceOf, greatest, steepestOf, heldBy, steepestBy, held, steepest, advance, next, storedLimit, Wired}
-use Rattle.network.specs.Sample.{Drives, Legal, Low, Answer, Empty, AtTop, Gives}
+use Rattle.network.specs.Network.{noBranch, Network, Free, reading, ramp, current, leaving, net, conductanceOf, greatest, steepestOf, heldBy, steepestBy, held, steepest, advance, next, storedLimit, Wired}
+use Rattle.network.specs.Sample.{Drives, Legal, Answer, Empty, numberOf, Gives}
 use Rattle.network.specs.Bound.{LeastEnough}
 use Rattle.network.specs.Cases.{Circuit, networkOf, Result, settles, rail, voltages, outcomeOf, Case, sample, bound, Holds, AllHold, cases}
 use Rattle.network.proofs.Nodes.{by-node}
@@ -108,7 +108,7 @@ resultTests c stored drives (settles z after) =
 resultTests c stored drives rail = (ltZ (pos 0) (netAt c stored drives (negℤ (pos voltageLimit))) || leZ (netAt c stored drives (pos voltageLimit)) (pos 0)) ∷ []
 
 abbrev passes : Case → Bool
-passes (sample c stored drives r) = allOf (sampleTests c drives) && allOf (resultTests c stored drives r)
+passes (sample c stored drives n r) = allOf (sampleTests c drives) && (allOf (resultTests c stored drives r) && eqb (numberOf (outcomeOf drives r)) n)
 passes (bound c zero) = false
 passes (bound c (suc B)) =
     let N = networkOf c in
@@ -175,7 +175,7 @@ module _ (c : Circuit) (stored drives : List ℤ) (ok : T (allOf (sampleTests c 
   voltages-free : (z : ℤ) → voltages drives z (suc (c .driven)) ≡ z
   voltages-free z = rw (← lengths) (getD-append-seam drives z [] (pos 0))
 
-  settles-sound : (z : ℤ) (after : List ℤ) → T (allOf (resultTests c stored drives (settles z after))) → Holds (sample c stored drives (settles z after))
+  settles-sound : (z : ℤ) (after : List ℤ) → T (allOf (resultTests c stored drives (settles z after))) → Gives N (reading stored) (reading drives) (outcomeOf drives (settles z after))
   settles-sound z after h = record {
     drives = sample-drives;
     answer = answer-at N (reading stored) (reading drives) sample-wired refl (voltages drives z) (voltages drives (z +ℤ pos 1))
@@ -194,11 +194,14 @@ module _ (c : Circuit) (stored drives : List ℤ) (ok : T (allOf (sampleTests c 
       free : (P : ℤ → Type 0) → P z → (i : ℕ) → Free N i → P (voltages drives z i)
       free P h i f = let e : i ≡ suc (c .driven) = omega arith in rw (e, voltages-free z) h
 
-  rail-sound : T (allOf (resultTests c stored drives rail)) → Holds (sample c stored drives rail)
-  rail-sound h = record { drives = sample-drives; rail = ⊎-elim
-      (λ (t : T under). inl (none-at N (reading stored) (reading drives) sample-wired refl (voltages drives (negℤ (pos voltageLimit))) (voltages-drives _) (voltages-free _) (record { lt = t })))
-      (λ (t : T full). inr (voltages drives (pos voltageLimit), top-at N (reading stored) (reading drives) sample-wired refl (voltages drives (pos voltageLimit)) (voltages-drives _) (voltages-free _) (record { le = t }), record { node = suc (c .driven); free = omega arith; top = voltages-free _ }))
-      (or-either under full (each (resultTests c stored drives rail) h 0)) }
+  rail-sound : T (allOf (resultTests c stored drives rail)) → Gives N (reading stored) (reading drives) (outcomeOf drives rail)
+  rail-sound h = record {
+    drives = sample-drives;
+    rail = ⊎-elim
+        (λ (t : T under). inl (none-at N (reading stored) (reading drives) sample-wired refl (voltages drives (negℤ (pos voltageLimit))) (voltages-drives _) (voltages-free _) (record { lt = t })))
+        (λ (t : T full). inr (voltages drives (pos voltageLimit), top-at N (reading stored) (reading drives) sample-wired refl (voltages drives (pos voltageLimit)) (voltages-drives _) (voltages-free _) (record { le = t }), record { node = suc (c .driven); free = omega arith; top = voltages-free _ }))
+        (or-either under full (each (resultTests c stored drives rail) h 0));
+  }
     where
       under : Bool
       under = ltZ (pos 0) (netAt c stored drives (negℤ (pos voltageLimit)))
@@ -227,13 +230,17 @@ bound-sound c B h = record {
     tests : List Bool
     tests = leb S (suc B * H) ∷ ltb (B * H) S ∷ []
 
+result-sound : (c : Circuit) (stored drives : List ℤ) (r : Result) → T (allOf (sampleTests c drives)) → T (allOf (resultTests c stored drives r)) → Gives (networkOf c) (reading stored) (reading drives) (outcomeOf drives r)
+result-sound c stored drives (settles z after) ok h = settles-sound c stored drives ok z after h
+result-sound c stored drives rail ok h = rail-sound c stored drives ok h
+
 sound : (c : Case) → T (passes c) → Holds c
-sound (sample c stored drives (settles z after)) h =
-    let k = and-both (allOf (sampleTests c drives)) (allOf (resultTests c stored drives (settles z after))) h in
-    settles-sound c stored drives (k .0) z after (k .1)
-sound (sample c stored drives rail) h =
-    let k = and-both (allOf (sampleTests c drives)) (allOf (resultTests c stored drives rail)) h in
-    rail-sound c stored drives (k .0) (k .1)
+sound (sample c stored drives n r) h =
+    let result = allOf (resultTests c stored drives r) in
+    let number = eqb (numberOf (outcomeOf drives r)) n in
+    let k = and-both (allOf (sampleTests c drives)) (result && number) h in
+    let m = and-both result number (k .1) in
+    (result-sound c stored drives r (k .0) (m .0), eqb→eq (numberOf (outcomeOf drives r)) n (m .1))
 sound (bound c zero) h = absurd h
 sound (bound c (suc B)) h = bound-sound c B h
 

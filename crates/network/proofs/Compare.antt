@@ -7,61 +7,51 @@ use Prim.Native.Nat.{ℕ, zero, suc, _+_, _*_, _≤_, _<_}
 use native.Mathlib.Omega.{arith}
 use native.Mathlib.Nat.{le-refl, mul-le-mul-left}
 use lib.Dec.{eqb, leb, eqb→eq, leb→le}
-use lib.IntN.{*ℤ-zero, ℤ, pos, negℤ, _+ℤ_, _-ℤ_, _*ℤ_}
+use lib.IntN.{*ℤ-zero, ℤ, pos, negℤ, _-ℤ_, _*ℤ_}
 use lib.Signed.{_≤ℤ_, _<ℤ_}
 use Rattle.units.specs.Integer.{sum, total}
-use Rattle.units.proofs.Integers.{up, dn, signs, add-law, sub-law, neg-law, scale-law, scale-add, scale-sub, scale-neg, scale-one, scale-scale, Rise, Reach, decide}
+use Rattle.units.proofs.Integers.{signs, add-law, sub-law, neg-law, scale-law, scale-add, scale-sub, scale-neg, scale-one, scale-scale, Rise, Reach, decide}
 use Rattle.network.specs.Network.{Law, conductance, curve, Branch, Network, Fixed, ramp, current, greatest, conductanceOf, steepestOf, pick, leaving, net, heldBy, steepestBy, held, steepest, Wired}
 use Rattle.network.specs.Sample.{Under}
 use Rattle.network.proofs.Curves.{ramp-mono, ramp-steep, ramp-scale}
 
--- ---- one law: its current rises by at least its conductance and by at most its steepest slope for each microvolt
+-- ---- one law
 
-pub current-rise : (k : ℕ) (l : Law) (x v u : ℤ) (t : ℕ) → Rise v t u → Rise (current k l x v) (conductanceOf l * t) (current k l x u)
-unfolding current conductanceOf
-current-rise k (conductance g) x v u t h =
-    omega (arith, mul-le-mul-left g h, scale-law g v, scale-law g u, sub-law (pos g *ℤ v) (pos k *ℤ x), sub-law (pos g *ℤ u) (pos k *ℤ x))
-current-rise k (curve ss bs) x v u t h =
-    let m = ramp-mono k ss bs v u (omega signs) in
-    omega (signs, sub-law (ramp k ss bs v) (ramp k ss bs (pos 0)), sub-law (ramp k ss bs u) (ramp k ss bs (pos 0)))
-
-pub current-steep : (k : ℕ) (l : Law) (x v u : ℤ) (t : ℕ) → Reach v t u → Reach (current k l x v) (steepestOf l * t) (current k l x u)
-unfolding current steepestOf
-current-steep k (conductance g) x v u t h =
-    omega (arith, mul-le-mul-left g h, scale-law g v, scale-law g u, sub-law (pos g *ℤ v) (pos k *ℤ x), sub-law (pos g *ℤ u) (pos k *ℤ x))
-current-steep k (curve ss bs) x v u t h = ⊎-elim falls rises (decide u v)
-  where
-    f : ℤ → ℤ
-    f = ramp k ss bs
-
-    Goal : Type 0
-    Goal = Reach (f v -ℤ f (pos 0)) (greatest ss * t) (f u -ℤ f (pos 0))
-
-    falls : u ≤ℤ v → Goal
-    falls g =
-        let m = ramp-mono k ss bs u v g in
-        omega (signs, sub-law (f v) (f (pos 0)), sub-law (f u) (f (pos 0)))
-
-    rises : v <ℤ u → Goal
-    rises g =
-        let S = greatest ss in
-        let m = ramp-steep k S ss bs v u (le-refl S) (omega signs) in
-        omega (
-          signs,
-          mul-le-mul-left S h,
-          scale-law S v,
-          scale-law S u,
-          add-law (f u) (pos S *ℤ v),
-          add-law (f v) (pos S *ℤ u),
-          sub-law (f v) (f (pos 0)),
-          sub-law (f u) (f (pos 0)),
-        )
-
+-- k times the voltage on the grid of k-ths gives k times the current
 pub current-scale : (k : ℕ) (l : Law) (x v : ℤ) → current k l x (pos k *ℤ v) ≡ pos k *ℤ current 1 l x v
 unfolding current
 current-scale k (conductance g) x v =
     omega (signs, sub-law (pos g *ℤ (pos k *ℤ v)) (pos k *ℤ x), sub-law (pos k *ℤ (pos g *ℤ v)) (pos k *ℤ (pos 1 *ℤ x)), scale-sub k (pos g *ℤ v) (pos 1 *ℤ x), scale-scale g k v, ap (λ (z : ℤ). pos k *ℤ z) (scale-one x))
 current-scale k (curve ss bs) x v = rw (scale-sub, ← ramp-scale k ss bs v, ← ramp-scale k ss bs (pos 0), *ℤ-zero)
+
+-- what is the same on both sides may be taken off
+less-rise : (a b c : ℤ) (t : ℕ) → Rise a t b → Rise (a -ℤ c) t (b -ℤ c)
+less-rise a b c t h = omega (arith, sub-law a c, sub-law b c)
+
+less-reach : (a b c : ℤ) (t : ℕ) → Reach a t b → Reach (a -ℤ c) t (b -ℤ c)
+less-reach a b c t h = omega (arith, sub-law a c, sub-law b c)
+
+-- the current rises by at least the conductance, and by at most the steepest slope, for each microvolt
+pub current-rise : (k : ℕ) (l : Law) (x v u : ℤ) (t : ℕ) → Rise v t u → Rise (current k l x v) (conductanceOf l * t) (current k l x u)
+unfolding current conductanceOf
+current-rise k (conductance g) x v u t h = less-rise (pos g *ℤ v) (pos g *ℤ u) (pos k *ℤ x) (g * t) (omega (arith, mul-le-mul-left g h, scale-law g v, scale-law g u))
+current-rise k (curve ss bs) x v u t h =
+    let m = ramp-mono k ss bs v u (omega signs) in
+    less-rise (ramp k ss bs v) (ramp k ss bs u) (ramp k ss bs (pos 0)) (0 * t) (omega signs)
+
+pub current-steep : (k : ℕ) (l : Law) (x v u : ℤ) (t : ℕ) → Reach v t u → Reach (current k l x v) (steepestOf l * t) (current k l x u)
+unfolding current steepestOf
+current-steep k (conductance g) x v u t h = less-reach (pos g *ℤ v) (pos g *ℤ u) (pos k *ℤ x) (g * t) (omega (arith, mul-le-mul-left g h, scale-law g v, scale-law g u))
+current-steep k (curve ss bs) x v u t h = less-reach (f v) (f u) (f (pos 0)) (S * t) (⊎-elim
+    (λ (g : u ≤ℤ v). omega (signs, ramp-mono k ss bs u v g))
+    (λ (g : v <ℤ u). omega (signs, ramp-steep k S ss bs v u (le-refl S) (omega signs), mul-le-mul-left S h, scale-law S v, scale-law S u, add-law (f u) (pos S *ℤ v), add-law (f v) (pos S *ℤ u)))
+    (decide u v))
+  where
+    f : ℤ → ℤ
+    f = ramp k ss bs
+
+    S : ℕ
+    S = greatest ss
 
 -- ---- Compare
 

@@ -9,7 +9,7 @@ use lib.IntN.{*ℤ-zero, ℤ, pos, _+ℤ_, _-ℤ_, _*ℤ_}
 use lib.Signed.{_≤ℤ_, _<ℤ_}
 use Rattle.units.specs.Integer.{lower, higher}
 use Rattle.units.proofs.Integers.{signs, add-law, sub-law, pos-law, scale-law, scale-mono, scale-gap, scale-one, scale-scale, scale-add, scale-lower, scale-higher, lower-mono, higher-mono, both-scale, ordered, crossed}
-use Rattle.network.specs.Network.{Law, curve, reading, ramp, current, greatest}
+use Rattle.network.specs.Network.{curve, reading, ramp, current, greatest}
 
 module _ (k : ℕ) where
   pub ramp-mono : (ss : List ℕ) (bs : List ℤ) (v u : ℤ) → v ≤ℤ u → ramp k ss bs v ≤ℤ ramp k ss bs u

@@ -1,27 +1,26 @@
 -- Demand 3: how far an accepted sample's voltages are from any that nearly balance, on any grid. Assumes nothing.
 use mathlib.Core.Path.{_≡_, refl, _∙_, ap}
-use mathlib.Core.Bool.{true, cond}
-use mathlib.Core.Logic.{_⊎_, ⊎-elim}
+use mathlib.Core.Bool.{cond}
+use mathlib.Core.Logic.{_⊎_, inl, inr, ⊎-elim}
 use Prim.Native.Nat.{ℕ, zero, suc, _+_, _*_, _-_, _≤_, _<_}
 use native.Mathlib.Omega.{arith}
 use native.Mathlib.Nat.{le-trans, mul-pos, mul-le-mul, mul-le-mul-left}
 use lib.Dec.{eqb}
-use borrow.Author.Tests.{ne-eqb, eqb-true}
 use lib.IntN.{*ℤ-zero, ℤ, pos, natAbs, _+ℤ_, _-ℤ_, _*ℤ_}
-use lib.Signed.{_≤ℤ_, _<ℤ_}
+use lib.Signed.{_≤ℤ_}
 use Rattle.units.specs.Voltage.{voltageLimit}
 use Rattle.units.proofs.Integers.{up, dn, signs, eq-out, add-law, sub-law, pos-law, abs-law, scale-law, scale-one, Rise, Reach, decideN}
 use Rattle.units.proofs.Sizes.{abs-within}
 use Rattle.network.specs.Network.{Network, Fixed, Free, net, held, steepest, Wired, InLimits}
-use Rattle.network.specs.Sample.{Drives, Legal, Low, Under, Answer, BelowTop, Accepted, accepted, Gives}
+use Rattle.network.specs.Sample.{Drives, Legal, Low, Under, Answer, BelowTop, accepted, Gives}
 use Rattle.network.specs.Bound.{Balances, Enough, Close}
 use Rattle.network.proofs.Compare.{steep, scale}
 use Rattle.network.proofs.Hold.{hold, same-fixed, leak-held, leak-steepest}
 use Rattle.network.proofs.Lowering.{one-node}
-use Rattle.network.proofs.Certify.{climb-by}
+use Rattle.network.proofs.Certify.{climb}
 
 -- An answer below the top misses zero by less than its steepest sum: else it would still be low with node i one microvolt higher
-pub misses-less : (N : Network) (x d v : ℕ → ℤ) (i : ℕ) → Wired N → Answer N x d v → BelowTop N v → Free N i → dn (net 1 N x v i) < up (net 1 N x v i) + steepest N i
+misses-less : (N : Network) (x d v : ℕ → ℤ) (i : ℕ) → Wired N → Answer N x d v → BelowTop N v → Free N i → dn (net 1 N x v i) < up (net 1 N x v i) + steepest N i
 misses-less N x d v i wired a below free = ⊎-elim
     (λ (h : up (net 1 N x v i) + steepest N i ≤ dn (net 1 N x v i)). absurd (clash h))
     (λ (h : dn (net 1 N x v i) < up (net 1 N x v i) + steepest N i). h) (decideN _ _)
@@ -34,6 +33,9 @@ misses-less N x d v i wired a below free = ⊎-elim
 
     here : u i ≡ v i +ℤ pos 1
     here = ⊎-elim (λ (e : (i ≡ i) × (u i ≡ v i +ℤ pos 1)). e .1) (λ (e : (i ≡ i → ⊥) × (u i ≡ v i)). absurd (e .0 refl)) (u-law i)
+
+    away : (j : ℕ) → (j ≡ i → ⊥) → u j ≡ v j
+    away j n = ⊎-elim (λ (e : (j ≡ i) × (u j ≡ v j +ℤ pos 1)). absurd (n (e .0))) (λ (e : (j ≡ i → ⊥) × (u j ≡ v j)). e .1) (u-law j)
 
     over : Under N v u
     over j l = ⊎-elim
@@ -48,11 +50,13 @@ misses-less N x d v i wired a below free = ⊎-elim
     clash : up (net 1 N x v i) + steepest N i ≤ dn (net 1 N x v i) → ⊥
     clash h = omega (signs, here, add-law (v i) (pos 1), pos-law 1, a .highest u (raise .0) (raise .1) i (free .1))
       where
-        high : (j : ℕ) → Free N j → eqb j i ≡ true → net 1 N x u j ≤ℤ pos 0
-        high j f e = rw (eqb-true j i e) (omega (signs, pos-law 0, steep 1 N x u v i 1 wired over (omega (signs, here, add-law (v i) (pos 1), pos-law 1))))
+        high : net 1 N x u i ≤ℤ pos 0
+        high = omega (signs, pos-law 0, steep 1 N x u v i 1 wired over (omega (signs, here, add-law (v i) (pos 1), pos-law 1)))
 
         raise : Legal N d u × Low N x u
-        raise = climb-by N x d v wired (a .legal) (a .low) u (λ (j : ℕ). eqb j i) 1 (λ j. refl) (λ j f. ne-eqb j i (omega arith)) range high
+        raise = climb N x d v wired (a .legal) (a .low) u (λ j f. away j (omega arith)) over range (λ j f. ⊎-elim
+            (λ (e : (j ≡ i) × (u j ≡ v j +ℤ pos 1)). inr (rw (e .0) high))
+            (λ (e : (j ≡ i → ⊥) × (u j ≡ v j)). inl (omega signs)) (u-law j))
 
 -- some bound is enough only if it isn't zero
 not-zero : (B h e s : ℕ) → 1 ≤ s → s + e ≤ B * h → 0 < B
@@ -119,15 +123,16 @@ module _ (N : Network) (x d v : ℕ → ℤ) (wired : Wired N) (leaks : 1 ≤ N 
           mul-pos grid (not-zero B (held N i) e (steepest N i) (le-trans leaks (leak-steepest N i)) (enough i free)),
         )
 
--- Demand 3, its words against the statement:
---   "a circuit within the limits"                                      InLimits N
---   "an accepted sample"                                               Gives N x d (accepted v y): stored currents x, drives d, voltages v
---   "on a grid of k-ths, k at least 1"                                 1 ≤ k; breakpoints, drives and stored currents times k are in `net k`
---   "the same drives and stored currents, and at every free node a
---    net current that misses zero by at most e" (compared as k e)      Balances k e N x d w
---   "steepest sum plus e at most B times the held conductance"         Enough N e B, in Close
---   "no free node differs by B microvolts or more"                     Close .bound: |w - k v| < k B, both halves
---   "with e zero ours is never the higher"                             Close .never-higher
+-- Demand 3, clause by clause:
+--   every circuit within document 01's limits                         InLimits N
+--   every accepted sample                                             Gives N x d (accepted v y): stored currents x, drives d, our voltages v
+--   every grid of k-ths, k at least 1                                 1 ≤ k; breakpoints, drives and stored currents times k are in `net k` and `Drives k`
+--   every e, and every assignment on the grid with the same drives
+--   and stored currents whose net current misses zero by at most e    Balances k e N x d w (e compared as k times e)
+--   every B with the steepest sum plus e at most B times the held
+--   conductance at each free node                                     Enough N e B, in Close .bound
+--   no free node differs by B microvolts or more                      Close .bound: |w - k v| < k B, so neither is far above the other
+--   and with e zero ours is never the higher                          Close .never-higher
 pub demand-3 : (N : Network) → InLimits N → (x d v y : ℕ → ℤ) → Gives N x d (accepted v y) → (k : ℕ) → 1 ≤ k → (e : ℕ) (w : ℕ → ℤ) → Balances k e N x d w → Close N v k e w
 demand-3 N limits x d v y sample k grid e w b = record {
   bound = within-bound N x d v (limits .wired) (limits .leaks) (sample .answer) (sample .below) k e w grid b;

@@ -1,14 +1,14 @@
 -- Descend: what sinks does not pass a low assignment. Step and Leap are two ways to use it. Assumes nothing.
-use mathlib.Core.Path.{_≡_, refl, sym, subst}
-use mathlib.Core.Logic.{_⊎_, inl, inr, ⊎-elim}
+use mathlib.Core.Path.{_≡_, sym, subst}
+use mathlib.Core.Logic.{_⊎_, ⊎-elim}
 use mathlib.Core.List.{List}
-use Prim.Native.Nat.{ℕ, zero, suc, _+_, _*_, _-_, _≤_, _<_}
+use Prim.Native.Nat.{ℕ, suc, _+_, _*_, _-_, _≤_, _<_}
 use native.Mathlib.Omega.{arith}
 use lib.ListN.{length, set}
 use lib.IntN.{ℤ, pos, _-ℤ_}
 use lib.Signed.{_≤ℤ_, _<ℤ_}
-use Rattle.units.proofs.Integers.{up, dn, signs, sub-law, pos-law, eq-out, Rise, Reach, decideN}
-use Rattle.network.specs.Network.{Network, Fixed, Free, reading, net, steepest, Wired}
+use Rattle.units.proofs.Integers.{up, dn, signs, sub-law, pos-law, eq-out, Reach, decideN}
+use Rattle.network.specs.Network.{Network, Free, reading, net, steepest, Wired}
 use Rattle.network.specs.Sample.{Drives, Legal, Low, Under}
 use Rattle.network.specs.Search.{lowered, Sank, still, sunk}
 use Rattle.network.proofs.Compare.{AtMost, compare, steep}
@@ -45,7 +45,10 @@ sink N x w S M i r wired low free high h = record { every = every; fixed = λ j 
         (λ (e : (j ≡ i → ⊥) × (lowered S i (suc r) j ≡ S j)). omega (signs, h .every j there)) (lowered-law S i (suc r) j)
 
 sinks : (N : Network) (x w s e : ℕ → ℤ) (M : ℕ) → Wired N → Low N x w → Sank N x s e → AtMost N M w s → AtMost N M w e
-sinks N x w s e M wired low still h = h
+sinks N x w s e M wired low (still same) h = record {
+  every = λ j l. omega (signs, same j l, h .every j l);
+  fixed = λ j f. omega (signs, same j (omega (arith, wired .driven-there)), h .fixed j f);
+}
 sinks N x w s e M wired low (sunk {e = f} i r before free high) h = sink N x w f M i r wired low free high (sinks N x w s f M wired low before h)
 
 -- Descend: s is anywhere with w's drives, e sank from it, and at every node v ≤ s or e < s. If w, legal and low, is under v, it is under e
@@ -64,16 +67,16 @@ descend N x d v s e w wired drives sank falls legal low under j there =
 
 -- ---- what sank lies under, and has the same drives
 
-pub sank-under : {N : Network} {x s e : ℕ → ℤ} → Sank N x s e → (j : ℕ) → e j ≤ℤ s j
-sank-under still j = omega signs
-sank-under (sunk {e = f} i r before free high) j = omega (signs, sank-under before j, lowered-under f i (suc r) j)
+pub sank-under : {N : Network} {x s e : ℕ → ℤ} → Sank N x s e → Under N e s
+sank-under (still same) j l = omega (signs, same j l)
+sank-under (sunk {e = f} i r before free high) j l = omega (signs, sank-under before j l, lowered-under f i (suc r) j)
 
 pub lowered-drives : (N : Network) (d w : ℕ → ℤ) (i t : ℕ) → Free N i → Drives 1 N d w → Drives 1 N d (lowered w i t)
 lowered-drives N d w i t free h = keep-drives w (lowered w i t) h (λ j f. lowered-away w i t j (omega arith))
 
-pub sank-drives : {N : Network} {x s e : ℕ → ℤ} (d : ℕ → ℤ) → Sank N x s e → Drives 1 N d s → Drives 1 N d e
-sank-drives d still h = h
-sank-drives {N} d (sunk {e = f} i r before free high) h = lowered-drives N d f i (suc r) free (sank-drives d before h)
+pub sank-drives : {N : Network} {x s e : ℕ → ℤ} (d : ℕ → ℤ) → Wired N → Sank N x s e → Drives 1 N d s → Drives 1 N d e
+sank-drives {s = s} {e = e} d wired (still same) h = keep-drives s e h (λ j f. same j (omega (arith, wired .driven-there)))
+sank-drives {N} d wired (sunk {e = f} i r before free high) h = lowered-drives N d f i (suc r) free (sank-drives d wired before h)
 
 -- ---- how far one node may be lowered
 

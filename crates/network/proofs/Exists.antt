@@ -2,7 +2,7 @@
 use mathlib.Core.Path.{_≡_, refl}
 use mathlib.Core.Bool.{cond}
 use mathlib.Core.Logic.{_⊎_, inl, inr, ⊎-elim}
-use Prim.Native.Nat.{ℕ, zero, suc, _+_, _≤_, _<_}
+use Prim.Native.Nat.{ℕ, zero, suc, _≤_, _<_}
 use native.Mathlib.Omega.{arith}
 use native.Mathlib.Nat.{le-refl}
 use lib.Dec.{leb}
@@ -10,11 +10,11 @@ use borrow.Author.Tests.{le-leb, lt-leb}
 use lib.IntN.{ℤ, pos, natAbs, _-ℤ_, _*ℤ_}
 use lib.Signed.{_≤ℤ_, _<ℤ_}
 use Rattle.units.specs.Voltage.{voltageLimit, driveLimit}
-use Rattle.units.proofs.Integers.{signs, sub-law, neg-law, pos-law, abs-law, decide, decideN}
+use Rattle.units.proofs.Integers.{signs, sub-law, pos-law, abs-law, decide, decideN}
 use Rattle.network.specs.Network.{Network, Free, net, next, Wired, storedLimit}
 use Rattle.network.specs.Sample.{Drives, Legal, Low, Answer, Empty, AtTop, BelowTop, Outcome, accepted, driveRefused, railRefused, storedRefused, DrivesLegal, Gives}
-use Rattle.network.specs.Search.{Settling, NoneUnder, lowered}
-use Rattle.network.proofs.Nodes.{by-node, find}
+use Rattle.network.specs.Search.{Settling, lowered}
+use Rattle.network.proofs.Nodes.{find}
 use Rattle.network.proofs.Hold.{top-start}
 use Rattle.network.proofs.Lowering.{lowered-here, lowered-under, lowered-none}
 use Rattle.network.proofs.Settle.{bottom, settling-start, settled-answer, none-empty, out-of-range, step-covers, step-settling, height, height-falls}
@@ -64,7 +64,7 @@ module _ (N : Network) (x d : ℕ → ℤ) (wired : Wired N) where
       found : (i : ℕ) → Free N i → pos 0 <ℤ net 1 N x (lowered v i 0) i → ((v : ℕ → ℤ) × Answer N x d v) ⊎ Empty N x d
       found i free high = ⊎-elim
           (λ (inside : bottom ≤ℤ (v i -ℤ pos 1)). again (lowered v i 1) (step-settling N x d (topOf N d) v s i 0 wired free high inside)
-          (height-falls N (lowered v i 1) v i (free .1) (lowered-under v i 1) (omega (signs, lowered-here v i 1, sub-law (v i) (pos 1), pos-law 1)) (omega (signs, sub-law (v i) (pos 1), pos-law 1))))
+          (height-falls N (lowered v i 1) v i (free .1) (λ j l. lowered-under v i 1 j) (omega (signs, lowered-here v i 1, sub-law (v i) (pos 1), pos-law 1)) (omega (signs, sub-law (v i) (pos 1), pos-law 1))))
           (λ (out : (v i -ℤ pos 1) <ℤ bottom). inr (none-empty N x d (topOf N d) above (out-of-range N x d (topOf N d) (lowered v i 1) i (step-covers N x d (topOf N d) v s i 0 wired free high) free (rw (lowered-here v i 1) out))))
           (decide bottom (v i -ℤ pos 1))
 

@@ -8,9 +8,9 @@ use lib.Signed.{_≤ℤ_}
 use Rattle.units.specs.Voltage.{voltageLimit}
 use Rattle.units.proofs.Integers.{up, dn, signs, pos-law, abs-law, eq-out, Rise, Reach, decideN}
 use Rattle.network.specs.Network.{Network, Fixed, Free, net, held, steepest, Wired}
-use Rattle.network.specs.Sample.{Drives, Legal, Low, Above}
+use Rattle.network.specs.Sample.{Drives, Above}
 use Rattle.network.proofs.Nodes.{by-node}
-use Rattle.network.proofs.Compare.{AtMost, compare}
+use Rattle.network.proofs.Compare.{compare}
 
 -- some number that w is nowhere more above u
 apart : (ℕ → ℤ) → (ℕ → ℤ) → ℕ → ℕ

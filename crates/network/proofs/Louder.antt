@@ -3,7 +3,7 @@
 use mathlib.Core.Path.{_≡_, refl}
 use mathlib.Core.Bool.{cond}
 use mathlib.Core.Logic.{⊎-elim}
-use Prim.Native.Nat.{ℕ, zero, suc, _≤_, _<_}
+use Prim.Native.Nat.{ℕ, zero, suc, _<_}
 use native.Mathlib.Omega.{arith}
 use lib.Dec.{leb}
 use borrow.Author.Tests.{le-leb, lt-leb}
@@ -12,7 +12,7 @@ use lib.Signed.{_≤ℤ_, _<ℤ_}
 use Rattle.units.specs.Integer.{higher}
 use Rattle.units.proofs.Integers.{signs, le-out, decide, parts, higher-law, ordered, crossed, scale-one}
 use Rattle.network.specs.Network.{Network, Fixed, Free, Wired}
-use Rattle.network.specs.Sample.{Drives, Legal, Low, Under, Answer, Empty}
+use Rattle.network.specs.Sample.{Drives, Legal, Low, Under, Answer}
 use Rattle.network.proofs.Nodes.{by-node}
 use Rattle.network.proofs.Compare.{others-rise}
 use Rattle.network.proofs.Hold.{keep-drives}
@@ -61,9 +61,14 @@ module _ (N : Network) (x d₁ d₂ v₁ : ℕ → ℤ) (wired : Wired N) (loude
   unfolding moved
   moved-drives = record { ground = refl; driven = λ j l. rw (le-leb (suc j) (N .driven) l) }
 
-  pub not-empty : Empty N x d₂ → ⊥
-  not-empty none = none moved
-      (record { drives = moved-drives; range = λ i f. rw (moved-free i f) (a₁ .legal .range i f) })
-      (λ i f. omega (signs, a₁ .low i f, others-rise 1 N x v₁ moved i wired
-      (by-node N (λ (j : ℕ). v₁ j ≤ℤ moved j) (drives-rise moved moved-drives) (λ j g. omega (signs, moved-free j g)))
-      (omega (signs, moved-free i f))))
+  -- which are legal and low
+  pub still-low : (w : ℕ → ℤ) × Legal N d₂ w × Low N x w
+  still-low = (
+    moved,
+    record { drives = moved-drives; range = λ i f. rw (moved-free i f) (a₁ .legal .range i f) },
+    λ i f. omega (
+      signs,
+      a₁ .low i f,
+      others-rise 1 N x v₁ moved i wired (by-node N (λ (j : ℕ). v₁ j ≤ℤ moved j) (drives-rise moved moved-drives) (λ j g. omega (signs, moved-free j g))) (omega (signs, moved-free i f)),
+    ),
+  )

@@ -3,8 +3,7 @@ use mathlib.Core.Path.{_≡_, refl, fun-ext}
 use mathlib.Core.Bool.{Bool, true, false, cond}
 use mathlib.Core.List.{List}
 use mathlib.Core.Logic.{_⊎_, inl, inr, ⊎-elim}
-use Prim.Native.Nat.{ℕ, suc, _≤_, _<_}
-use native.Mathlib.Omega.{arith}
+use Prim.Native.Nat.{ℕ, suc, _<_}
 use lib.Dec.{eqb}
 use lib.ListN.{length, set}
 use lib.Seq.{getD-set-same, getD-set-other}
@@ -38,6 +37,14 @@ module _ (w : ℕ → ℤ) (i t : ℕ) where
   lowered-under j = ⊎-elim
       (λ (e : (j ≡ i) × (lowered w i t j ≡ w j -ℤ pos t)). omega (signs, sub-law (w j) (pos t), pos-law t))
       (λ (e : (j ≡ i → ⊥) × (lowered w i t j ≡ w j)). omega signs) (lowered-law j)
+
+  pub lowered-further : (j : ℕ) → lowered w i (suc t) j ≤ℤ lowered w i t j
+  unfolding lowered
+  lowered-further j = go (eqb j i)
+    where
+      go : (b : Bool) → cond b (w j -ℤ pos (suc t)) (w j) ≤ℤ cond b (w j -ℤ pos t) (w j)
+      go true = omega (signs, sub-law (w j) (pos t), sub-law (w j) (pos (suc t)), pos-law t, pos-law (suc t))
+      go false = omega signs
 
 -- lowering by nothing changes nothing
 pub lowered-none : (w : ℕ → ℤ) (i : ℕ) → lowered w i 0 ≡ w

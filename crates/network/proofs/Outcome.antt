@@ -1,15 +1,12 @@
 -- A sample has one outcome only. Assumes nothing.
 use mathlib.Core.Path.{_≡_, refl, sym, _∙_}
-use mathlib.Core.Logic.{_⊎_, inl, inr, ⊎-elim}
-use Prim.Native.Nat.{ℕ, suc, _≤_, _<_}
+use mathlib.Core.Logic.{inl, inr}
+use Prim.Native.Nat.{ℕ, _≤_, _<_}
 use native.Mathlib.Omega.{arith}
-use lib.IntN.{ℤ, pos, natAbs, _-ℤ_}
-use lib.Signed.{_≤ℤ_, _<ℤ_}
-use Rattle.units.specs.Voltage.{voltageLimit, InRange}
-use Rattle.units.proofs.Integers.{signs, pos-law, abs-law, decide, scale-one}
-use Rattle.network.specs.Network.{Network, Branch, Free, Wired, advance, conductanceOf, next, storedLimit}
-use Rattle.network.specs.Sample.{Legal, Answer, Rail, AtTop, BelowTop, Outcome, accepted, driveRefused, railRefused, storedRefused, DrivesLegal, Accepted, DriveRefused, RailRefused, StoredRefused, Gives, Same}
-use Rattle.network.proofs.Nodes.{by-node, find}
+use lib.IntN.{ℤ}
+use Rattle.units.proofs.Integers.{signs}
+use Rattle.network.specs.Network.{Network, Wired, next}
+use Rattle.network.specs.Sample.{Answer, Rail, AtTop, BelowTop, Outcome, accepted, driveRefused, railRefused, storedRefused, DrivesLegal, Accepted, DriveRefused, StoredRefused, Gives, Same}
 
 -- two answers stand alike at every node
 pub one-answer : (N : Network) (x d v u : ℕ → ℤ) → Answer N x d v → Answer N x d u → (j : ℕ) → j ≤ N .nodes → v j ≡ u j

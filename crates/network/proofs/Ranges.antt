@@ -1,5 +1,5 @@
 -- Numbers that fit: within document 01's limits every current, every partial sum of a net current and every new stored current fits an i64. Assumes nothing.
-use mathlib.Core.Path.{_≡_, refl, sym, _∙_, ap}
+use mathlib.Core.Path.{_∙_, ap}
 use mathlib.Core.Bool.{Bool, true, false, cond}
 use mathlib.Core.List.{List, [], _∷_}
 use mathlib.Core.Logic.{⊎-elim}
@@ -10,11 +10,11 @@ use lib.Dec.{eqb, leb}
 use lib.ListN.{length, getD}
 use lib.IntN.{ℤ, pos, negℤ, natAbs, _+ℤ_, _-ℤ_, _*ℤ_}
 use lib.Signed.{_≤ℤ_, _<ℤ_}
-use Rattle.units.specs.Integer.{lower, higher, sum, total}
-use Rattle.units.specs.Voltage.{voltageLimit, driveLimit, Within, InRange}
+use Rattle.units.specs.Integer.{lower, higher, sum}
+use Rattle.units.specs.Voltage.{voltageLimit, Within, InRange}
 use Rattle.units.proofs.Integers.{up, dn, signs, sub-law, pos-law, abs-law, decide, ordered, crossed, scale-one}
 use Rattle.units.proofs.Sizes.{abs-within, abs-add, abs-sub, abs-neg, abs-mul, sum-abs, total-small}
-use Rattle.network.specs.Network.{Law, conductance, curve, Store, nothing, capacitor, inductor, Branch, Network, Free, reading, ramp, current, pick, leaving, net, greatest, conductanceOf, steepestOf, heldBy, steepestBy, held, steepest, advance, next, branchLimit, conductanceLimit, breakpointLimit, storedLimit, leakLimit, CurveInLimits, LawInLimits, InLimits}
+use Rattle.network.specs.Network.{Law, conductance, curve, Store, nothing, capacitor, inductor, Network, reading, ramp, current, pick, leaving, net, greatest, conductanceOf, steepestOf, heldBy, steepestBy, held, steepest, advance, next, branchLimit, conductanceLimit, breakpointLimit, storedLimit, leakLimit, CurveInLimits, LawInLimits, InLimits}
 use Rattle.network.specs.Sample.{Legal, DrivesLegal}
 use Rattle.network.proofs.Nodes.{by-node}
 use Rattle.network.proofs.Compare.{current-steep}

@@ -1,23 +1,22 @@
 -- Settle: from voltages z, by Step and Leap, to the greatest legal low assignment under z, or that there is none. `Settling` is what holds all along,
 -- `height` is what falls. From a start (Hold) what is settled is the answer. The list forms speak of `set` and `reading`. Assumes nothing.
 use mathlib.Core.Path.{_≡_, refl, sym, subst}
-use mathlib.Core.Bool.{Bool, true, false, cond}
 use mathlib.Core.List.{List}
-use mathlib.Core.Logic.{_⊎_, inl, inr, ⊎-elim}
-use Prim.Native.Nat.{ℕ, zero, suc, _+_, _*_, _-_, _≤_, _<_}
+use mathlib.Core.Logic.{_⊎_, inl, ⊎-elim}
+use Prim.Native.Nat.{ℕ, zero, suc, _+_, _*_, _≤_, _<_}
 use native.Mathlib.Omega.{arith}
 use lib.ListN.{length, set}
 use lib.IntN.{ℤ, pos, negℤ, natAbs, _+ℤ_, _-ℤ_}
 use lib.Signed.{_≤ℤ_, _<ℤ_}
 use Rattle.units.specs.Integer.{total, roundedUp}
-use Rattle.units.specs.Voltage.{voltageLimit, InRange}
+use Rattle.units.specs.Voltage.{voltageLimit}
 use Rattle.units.proofs.Integers.{up, dn, signs, add-law, sub-law, neg-law, pos-law, abs-law, one-sided, parts, decideN}
 use Rattle.units.proofs.Sizes.{abs-within, rounded-up-law}
 use Rattle.network.specs.Network.{Network, Fixed, Free, reading, net, steepest, Wired}
-use Rattle.network.specs.Sample.{Drives, Legal, Low, Under, Above, Answer, Empty}
+use Rattle.network.specs.Sample.{Drives, Legal, Under, Above, Answer, Empty}
 use Rattle.network.specs.Search.{Covers, Settling, Settled, NoneUnder, lowered, Sank, still, sunk}
 use Rattle.network.proofs.Hold.{keep-drives, leak-steepest}
-use Rattle.network.proofs.Lowering.{lowered-law, lowered-here, lowered-under, store-lowers}
+use Rattle.network.proofs.Lowering.{lowered-law, lowered-here, lowered-under, lowered-further, store-lowers}
 use Rattle.network.proofs.Descend.{descend, sank-under, sank-drives, lowered-drives, allowed}
 
 -- the bottom of the range
@@ -43,64 +42,58 @@ out-of-range N x d z u i covers free out w legal low under =
 
 module _ (N : Network) (x d z v : ℕ → ℤ) (s : Settling N x d z v) where
   -- the search may go on at u if that still covers, has the drives, is not higher, and has not left the range
-  settling-at : (u : ℕ → ℤ) → Covers N x d z u → Drives 1 N d u → ((j : ℕ) → u j ≤ℤ v j) → ((i : ℕ) → Free N i → bottom ≤ℤ u i) → Settling N x d z u
+  settling-at : (u : ℕ → ℤ) → Covers N x d z u → Drives 1 N d u → Under N u v → ((i : ℕ) → Free N i → bottom ≤ℤ u i) → Settling N x d z u
   settling-at u covers drives below over = record {
     legal = record {
       drives = drives;
       range = λ i f. abs-within (u i) voltageLimit
-          (omega (signs, below i, s .legal .range i f, abs-law (v i)))
+          (omega (signs, below i (f .1), s .legal .range i f, abs-law (v i)))
           (omega (signs, over i f, neg-law (pos voltageLimit), pos-law voltageLimit));
     };
-    under = λ j l. omega (signs, below j, s .under j l);
+    under = λ j l. omega (signs, below j l, s .under j l);
     covers = covers;
   }
+
+  module _ (i : ℕ) (free : Free N i) where
+    lowered-settling : (t : ℕ) → Covers N x d z (lowered v i t) → bottom ≤ℤ (v i -ℤ pos t) → Settling N x d z (lowered v i t)
+    lowered-settling t covers over = settling-at (lowered v i t) covers (lowered-drives N d v i t free (s .legal .drives)) (λ j l. lowered-under v i t j) range
+      where
+        range : (j : ℕ) → Free N j → bottom ≤ℤ lowered v i t j
+        range j f = ⊎-elim
+            (λ (e : (j ≡ i) × (lowered v i t j ≡ v j -ℤ pos t)). rw (e .1, e .0) over)
+            (λ (e : (j ≡ i → ⊥) × (lowered v i t j ≡ v j)). omega (signs, neg-law (pos voltageLimit), pos-law voltageLimit, s .legal .range j f, abs-law (v j))) (lowered-law v i t j)
 
   -- ---- Step: node i lowered by r + 1, where one evaluation shows its net current above zero when lowered by r
   module _ (i r : ℕ) (wired : Wired N) (free : Free N i) (high : pos 0 <ℤ net 1 N x (lowered v i r) i) where
     pub step-covers : Covers N x d z (lowered v i (suc r))
     step-covers w legal low under =
-        descend N x d v v (lowered v i (suc r)) w wired (s .legal .drives) (sunk i r still free high) (λ j l. inl (omega signs)) legal low (s .covers w legal low under)
+        descend N x d v v (lowered v i (suc r)) w wired (s .legal .drives) (sunk i r (still (λ j l. refl)) free high) (λ j l. inl (omega signs)) legal low (s .covers w legal low under)
 
     pub step-settling : bottom ≤ℤ (v i -ℤ pos (suc r)) → Settling N x d z (lowered v i (suc r))
-    step-settling over = settling-at (lowered v i (suc r)) step-covers (lowered-drives N d v i (suc r) free (s .legal .drives)) (lowered-under v i (suc r)) range
-      where
-        range : (j : ℕ) → Free N j → bottom ≤ℤ lowered v i (suc r) j
-        range j f = ⊎-elim
-            (λ (e : (j ≡ i) × (lowered v i (suc r) j ≡ v j -ℤ pos (suc r))). rw (e .1, e .0) over)
-            (λ (e : (j ≡ i → ⊥) × (lowered v i (suc r) j ≡ v j)). omega (signs, neg-law (pos voltageLimit), pos-law voltageLimit, s .legal .range j f, abs-law (v j))) (lowered-law v i (suc r) j)
+    step-settling over = lowered-settling i free (suc r) step-covers over
 
-  -- ---- Leap: s₁ is v lowered by t on the set C, e sank from it, and below it on all of C
-  module _ (e s₁ : ℕ → ℤ) (C : ℕ → Bool) (t : ℕ) (wired : Wired N) (lower-on : (j : ℕ) → s₁ j ≡ cond (C j) (v j -ℤ pos t) (v j)) (not-fixed : (j : ℕ) → Fixed N j → C j ≡ false) (sank : Sank N x s₁ e) (falls : (j : ℕ) → j ≤ N .nodes → C j ≡ true → e j <ℤ s₁ j) where
-    start-law : (j : ℕ) → ((C j ≡ true) × (s₁ j ≡ v j -ℤ pos t)) ⊎ (s₁ j ≡ v j)
-    start-law j = go (C j) refl (lower-on j)
-      where
-        go : (b : Bool) → C j ≡ b → s₁ j ≡ cond b (v j -ℤ pos t) (v j) → ((C j ≡ true) × (s₁ j ≡ v j -ℤ pos t)) ⊎ (s₁ j ≡ v j)
-        go true h e = inl (h, e)
-        go false h e = inr e
+    -- .. or kept where it was evaluated, to step on from there
+    pub keep-settling : bottom ≤ℤ (v i -ℤ pos r) → Settling N x d z (lowered v i r)
+    keep-settling over = lowered-settling i free r (λ w legal low under j l. omega (signs, step-covers w legal low under j l, lowered-further v i r j)) over
 
-    start-drives : Drives 1 N d s₁
-    start-drives = keep-drives v s₁ (s .legal .drives) (λ j f. rw (lower-on j, not-fixed j f))
+  -- ---- Leap: s₁ is v lowered at some free nodes, e sank from it, and is lower than s₁ wherever s₁ is lower than v
+  module _ (s₁ e : ℕ → ℤ) (wired : Wired N) (same : (j : ℕ) → Fixed N j → s₁ j ≡ v j) (lower : Under N s₁ v) (sank : Sank N x s₁ e) (falls : (j : ℕ) → j ≤ N .nodes → (v j ≤ℤ s₁ j) ⊎ (e j <ℤ s₁ j)) where
+    leap-drives : Drives 1 N d s₁
+    leap-drives = keep-drives v s₁ (s .legal .drives) same
 
     pub leap-covers : Covers N x d z e
-    leap-covers w legal low under =
-        descend N x d v s₁ e w wired start-drives sank
-        (λ j l. ⊎-elim (λ (h : (C j ≡ true) × (s₁ j ≡ v j -ℤ pos t)). inr (falls j l (h .0))) (λ (h : s₁ j ≡ v j). inl (omega signs)) (start-law j))
-        legal low (s .covers w legal low under)
+    leap-covers w legal low under = descend N x d v s₁ e w wired leap-drives sank falls legal low (s .covers w legal low under)
 
     pub leap-settling : ((i : ℕ) → Free N i → bottom ≤ℤ e i) → Settling N x d z e
-    leap-settling = settling-at e leap-covers (sank-drives d sank start-drives)
-        (λ j. ⊎-elim
-        (λ (h : (C j ≡ true) × (s₁ j ≡ v j -ℤ pos t)). omega (signs, sank-under sank j, sub-law (v j) (pos t), pos-law t))
-        (λ (h : s₁ j ≡ v j). omega (signs, sank-under sank j)) (start-law j))
+    leap-settling = settling-at e leap-covers (sank-drives d wired sank leap-drives) (λ j l. omega (signs, sank-under sank j l, lower j l))
 
 -- ---- Step by the net current over the steepest sum, rounded up: it never passes the answer
 
 -- the step that the steepest sum allows
-unfoldable pub stepOf : Network → (ℕ → ℤ) → (ℕ → ℤ) → ℕ → ℕ
+abbrev pub stepOf : Network → (ℕ → ℤ) → (ℕ → ℤ) → ℕ → ℕ
 stepOf N x v i = roundedUp (natAbs (net 1 N x v i)) (steepest N i)
 
 pub step-allowed : (N : Network) (x v : ℕ → ℤ) (i : ℕ) → Wired N → 1 ≤ N .leak → pos 0 <ℤ net 1 N x v i → (r : ℕ) × (stepOf N x v i ≡ suc r) × (pos 0 <ℤ net 1 N x (lowered v i r) i)
-unfolding stepOf
 step-allowed N x v i wired leaks high = go (roundedUp (natAbs f) S) refl
   where
     f : ℤ
@@ -144,6 +137,9 @@ module _ (N : Network) (x d z : ℕ → ℤ) (l : List ℤ) (i : ℕ) (wired : W
     pub step-settling-list : bottom ≤ℤ (reading l i -ℤ pos (suc r)) → Settling N x d z (reading (down (suc r)))
     step-settling-list over = to-store (λ (u : ℕ → ℤ). Settling N x d z u) (suc r) (step-settling N x d z (reading l) s i r wired free still-high over)
 
+    pub keep-settling-list : bottom ≤ℤ (reading l i -ℤ pos r) → Settling N x d z (reading (down r))
+    keep-settling-list over = to-store (λ (u : ℕ → ℤ). Settling N x d z u) r (keep-settling N x d z (reading l) s i r wired free still-high over)
+
   -- and the one that the steepest sum allows
   module _ (leaks : 1 ≤ N .leak) (high : pos 0 <ℤ net 1 N x (reading l) i) where
     pub ceil-covers-list : Covers N x d z (reading (down (stepOf N x (reading l) i)))
@@ -161,32 +157,32 @@ module _ (N : Network) (x d z : ℕ → ℤ) (l : List ℤ) (i : ℕ) (wired : W
 unfoldable pub height : Network → (ℕ → ℤ) → ℕ
 height N v = total (λ (j : ℕ). up (v j +ℤ pos voltageLimit)) (suc (N .nodes))
 
-total-le : (f g : ℕ → ℕ) (n : ℕ) → ((j : ℕ) → g j ≤ f j) → total g n ≤ total f n
+total-le : (f g : ℕ → ℕ) (n : ℕ) → ((j : ℕ) → j < n → g j ≤ f j) → total g n ≤ total f n
 unfolding total
 total-le f g zero h = omega arith
-total-le f g (suc n) h = omega (arith, total-le f g n h, h n)
+total-le f g (suc n) h = omega (arith, total-le f g n (λ j l. h j (omega arith)), h n (omega arith))
 
-total-less : (f g : ℕ → ℕ) (n i : ℕ) → i < n → g i < f i → ((j : ℕ) → g j ≤ f j) → total g n < total f n
+total-less : (f g : ℕ → ℕ) (n i : ℕ) → i < n → g i < f i → ((j : ℕ) → j < n → g j ≤ f j) → total g n < total f n
 unfolding total
 total-less f g zero i l less h = absurd (omega arith)
 total-less f g (suc n) i l less h = ⊎-elim
-    (λ (m : suc i ≤ n). omega (arith, total-less f g n i m less h, h n))
-    (λ (m : n < suc i). let e : n ≡ i = omega arith in rw e (omega (arith, total-le f g i h))) (decideN (suc i) n)
+    (λ (m : suc i ≤ n). omega (arith, total-less f g n i m less (λ j l. h j (omega arith)), h n (omega arith)))
+    (λ (m : n < suc i). let e : n ≡ i = omega arith in rw e (omega (arith, total-le f g i (λ j l. h j (omega arith))))) (decideN (suc i) n)
 
 up-less : (a b : ℤ) → up a + dn b < up b + dn a → 0 < up b → up a < up b
 up-less a b h k = ⊎-elim (λ (z : dn a ≡ 0). omega arith) (λ (z : up a ≡ 0). omega arith) (one-sided a)
 
 -- u is nowhere higher than v, and at node i, which was above the bottom, lower
-pub height-falls : (N : Network) (u v : ℕ → ℤ) (i : ℕ) → i ≤ N .nodes → ((j : ℕ) → u j ≤ℤ v j) → u i <ℤ v i → bottom <ℤ v i → height N u < height N v
+pub height-falls : (N : Network) (u v : ℕ → ℤ) (i : ℕ) → i ≤ N .nodes → Under N u v → u i <ℤ v i → bottom <ℤ v i → height N u < height N v
 unfolding height
 height-falls N u v i there below less over =
     let L = pos voltageLimit in
     total-less (λ (j : ℕ). up (v j +ℤ L)) (λ (j : ℕ). up (u j +ℤ L)) (suc (N .nodes)) i (omega arith)
     (up-less (u i +ℤ L) (v i +ℤ L) (omega (signs, add-law (u i) L, add-law (v i) L)) (omega (signs, add-law (v i) L, neg-law L, pos-law voltageLimit)))
-    (λ j. parts (u j +ℤ L) (v j +ℤ L) (omega (signs, below j, add-law (u j) L, add-law (v j) L)) .0)
+    (λ j l. parts (u j +ℤ L) (v j +ℤ L) (omega (signs, below j (omega arith), add-law (u j) L, add-law (v j) L)) .0)
 
 pub height-falls-list : (N : Network) (l : List ℤ) (i t : ℕ) → i < length l → i ≤ N .nodes → 0 < t → bottom <ℤ reading l i → height N (reading (set l i (reading l i -ℤ pos t))) < height N (reading l)
 height-falls-list N l i t short there some over =
     let u = lowered (reading l) i t in
     subst (λ (u : ℕ → ℤ). height N u < height N (reading l)) (sym (store-lowers l i t short))
-    (height-falls N u (reading l) i there (lowered-under (reading l) i t) (omega (signs, lowered-here (reading l) i t, sub-law (reading l i) (pos t), pos-law t)) over)
+    (height-falls N u (reading l) i there (λ j h. lowered-under (reading l) i t j) (omega (signs, lowered-here (reading l) i t, sub-law (reading l i) (pos t), pos-law t)) over)

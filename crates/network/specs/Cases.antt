@@ -1,12 +1,13 @@
 -- Document 01's bench cases that are marked P, as one table: 14 samples, and the two B. Assumes nothing.
 -- The networks are those that the named images mean: 1000 ohm is 1,000,000 nS, 10,000 pF at 48,000 Hz is 960,000 nS, the leak is 1 nS. Each
 -- has one free node, the one after the driven ones.
+use mathlib.Core.Path.{_≡_}
 use mathlib.Core.List.{List, [], _∷_, _++_}
 use Prim.Native.Nat.{ℕ, suc}
 use lib.ListN.{length, getD}
 use lib.IntN.{ℤ, pos, negℤ}
 use Rattle.network.specs.Network.{Law, conductance, curve, Store, nothing, capacitor, Branch, noBranch, Network, reading}
-use Rattle.network.specs.Sample.{Outcome, accepted, railRefused, Gives}
+use Rattle.network.specs.Sample.{Outcome, accepted, railRefused, numberOf, Gives}
 use Rattle.network.specs.Bound.{LeastEnough}
 
 pub record Circuit : Type 0 where
@@ -29,14 +30,14 @@ abbrev pub outcomeOf : List ℤ → Result → Outcome
 outcomeOf drives (settles z stored) = accepted (voltages drives z) (reading stored)
 outcomeOf drives rail = railRefused
 
--- a circuit with its stored currents and drives, and what comes of the sample; a circuit and its B for e = 0
+-- a circuit with its stored currents and drives, the number and what comes of the sample; a circuit and its B for e = 0
 pub data Case : Type 0 where
-  sample : Circuit → List ℤ → List ℤ → Result → Case
+  sample : Circuit → List ℤ → List ℤ → ℕ → Result → Case
   bound : Circuit → ℕ → Case
 
 -- what a case says
 abbrev pub Holds : Case → Type 0
-Holds (sample c stored drives r) = Gives (networkOf c) (reading stored) (reading drives) (outcomeOf drives r)
+Holds (sample c stored drives n r) = Gives (networkOf c) (reading stored) (reading drives) (outcomeOf drives r) × (numberOf (outcomeOf drives r) ≡ n)
 Holds (bound c B) = LeastEnough (networkOf c) 0 B
 
 abbrev pub AllHold : List Case → Type 0
@@ -71,7 +72,7 @@ minus n = negℤ (pos n)
 
 -- one sample of a circuit that stores nothing
 abbrev plain : Circuit → ℤ → ℤ → Case
-plain c drive z = sample c [] (drive ∷ []) (settles z [])
+plain c drive z = sample c [] (drive ∷ []) 0 (settles z [])
 
 unfoldable pub cases : List Case
 cases =
@@ -81,14 +82,14 @@ cases =
     ∷ plain divider (pos 1_000_000) (pos 499_999)
     ∷ plain divider (minus 1_000_000) (minus 500_000)
     ∷ bound divider 1
-    ∷ sample lowPass [] (pos 1_000_000 ∷ []) (settles (pos 510_203) (pos 0 ∷ pos 979_589_760_000 ∷ []))
-    ∷ sample lowPass (pos 0 ∷ pos 979_589_760_000 ∷ []) (pos 1_000_000 ∷ []) (settles (pos 1_009_994) (pos 0 ∷ pos 959_598_720_000 ∷ []))
+    ∷ sample lowPass [] (pos 1_000_000 ∷ []) 0 (settles (pos 510_203) (pos 0 ∷ pos 979_589_760_000 ∷ []))
+    ∷ sample lowPass (pos 0 ∷ pos 979_589_760_000 ∷ []) (pos 1_000_000 ∷ []) 0 (settles (pos 1_009_994) (pos 0 ∷ pos 959_598_720_000 ∷ []))
     ∷ plain clipper (pos 1_000_000) (pos 636_363)
     ∷ plain clipper (pos 500_000) (pos 499_999)
     ∷ plain clipper (minus 1_000_000) (minus 1_000_000)
     ∷ bound clipper 11
-    ∷ sample lone (pos 32_212_288_274_431 ∷ []) [] (settles (pos 33_554_431) (pos 32_212_219_245_569 ∷ []))
-    ∷ sample lone (pos 32_212_288_274_432 ∷ []) [] rail
-    ∷ sample lone (minus 32_212_288_274_432 ∷ []) [] (settles (minus 33_554_432) (minus 32_212_221_165_568 ∷ []))
-    ∷ sample lone (minus 32_212_288_274_433 ∷ []) [] rail
+    ∷ sample lone (pos 32_212_288_274_431 ∷ []) [] 0 (settles (pos 33_554_431) (pos 32_212_219_245_569 ∷ []))
+    ∷ sample lone (pos 32_212_288_274_432 ∷ []) [] 10 rail
+    ∷ sample lone (minus 32_212_288_274_432 ∷ []) [] 0 (settles (minus 33_554_432) (minus 32_212_221_165_568 ∷ []))
+    ∷ sample lone (minus 32_212_288_274_433 ∷ []) [] 10 rail
     ∷ []

@@ -22,6 +22,7 @@ pub data Law : Type 0 where
 pub data Store : Type 0 where
   nothing capacitor inductor : Store
 
+-- current flows from p to q
 pub record Branch : Type 0 where
   pub p : ℕ
   pub q : ℕ
@@ -40,7 +41,7 @@ pub record Network : Type 0 where
 abbrev pub noBranch : Branch
 noBranch = record { p = 0; q = 0; law = conductance 0; store = nothing }
 
--- ground and the driven nodes are fixed
+-- ground and the driven nodes are fixed, the others that are there are free
 abbrev pub Fixed : Network → ℕ → Type 0
 Fixed N i = i ≤ N .driven
 
@@ -59,7 +60,7 @@ ramp k [] breakpoints v = pos 0
 ramp k (s ∷ slopes) [] v = pos s *ℤ v
 ramp k (s ∷ slopes) (b ∷ breakpoints) v = pos s *ℤ lower v (pos k *ℤ b) +ℤ ramp k slopes breakpoints (higher v (pos k *ℤ b))
 
--- what flows from p to q at the voltage v of p less that of q, the stored current being x
+-- what flows from p to q at the voltage v of p less that of q, the stored current being x (which is 0 where a branch stores nothing)
 unfoldable pub current : ℕ → Law → ℤ → ℤ → ℤ
 current k (conductance g) x v = pos g *ℤ v -ℤ pos k *ℤ x
 current k (curve slopes breakpoints) x v = ramp k slopes breakpoints v -ℤ ramp k slopes breakpoints (pos 0)
@@ -84,6 +85,7 @@ net k N x w i = pos (N .leak) *ℤ w i +ℤ sum (λ (j : ℕ). leaving k (N .bra
 
 -- ---- held conductance and steepest sum
 
+-- a curve counts with no conductance, and with its greatest slope
 unfoldable pub conductanceOf : Law → ℕ
 conductanceOf (conductance g) = g
 conductanceOf (curve slopes breakpoints) = 0
@@ -96,7 +98,7 @@ unfoldable pub steepestOf : Law → ℕ
 steepestOf (conductance g) = g
 steepestOf (curve slopes breakpoints) = greatest slopes
 
--- the branch's conductance where the other end is fixed
+-- what a branch adds at node i: its conductance if the other end is fixed; its conductance or greatest slope
 unfoldable pub heldBy : Network → Branch → ℕ → ℕ
 heldBy N b i =
     let g = conductanceOf (b .law) in
@@ -105,20 +107,23 @@ heldBy N b i =
 unfoldable pub steepestBy : Branch → ℕ → ℕ
 steepestBy b i = atNode b i (steepestOf (b .law)) (steepestOf (b .law)) 0
 
+-- the leak plus the conductances whose other end is ground or a driven node
 unfoldable pub held : Network → ℕ → ℕ
 held N i = N .leak + total (λ (j : ℕ). heldBy N (N .branch j) i) (N .count)
 
+-- the leak plus all conductances and, for each curve, the greatest slope
 unfoldable pub steepest : Network → ℕ → ℕ
 steepest N i = N .leak + total (λ (j : ℕ). steepestBy (N .branch j) i) (N .count)
 
 -- ---- stored currents
 
--- the stored current after a sample: v was the voltage, x the stored current before it, g the conductance
+-- the stored current of a branch after a sample: g is its conductance, x what it stored before, v its voltage in the sample
 unfoldable pub advance : Store → ℕ → ℤ → ℤ → ℤ
 advance nothing g x v = pos 0
 advance capacitor g x v = pos (2 * g) *ℤ v -ℤ x
 advance inductor g x v = x -ℤ pos (2 * g) *ℤ v
 
+-- all of them, from the sample's voltages
 unfoldable pub next : Network → (ℕ → ℤ) → (ℕ → ℤ) → ℕ → ℤ
 next N x v j =
     let b = N .branch j in
@@ -126,6 +131,7 @@ next N x v j =
 
 -- ---- document 01's limits, each once (those of the voltage belong to units)
 
+-- of nodes besides ground, and of branches
 abbrev pub nodeLimit : ℕ
 nodeLimit = 15
 
@@ -136,17 +142,18 @@ branchLimit = 32
 abbrev pub conductanceLimit : ℕ
 conductanceLimit = 2 ^ 30
 
--- of a breakpoint, and of how many a curve has
+-- of a breakpoint, either way, and of how many a curve has
 abbrev pub breakpointLimit : ℕ
 breakpointLimit = 2 ^ 26
 
 abbrev pub breakpointCountLimit : ℕ
 breakpointCountLimit = 16
 
+-- of a stored current, either way
 abbrev pub storedLimit : ℕ
 storedLimit = 2 ^ 57
 
--- request 6 has 10 nS; today it is 1
+-- of the leak: document 01 has 1 nS, request 6 has 10
 abbrev pub leakLimit : ℕ
 leakLimit = 10
 
@@ -156,6 +163,7 @@ pub record Wired (N : Network) : Type 0 where
   pub p-there : (j : ℕ) → j < N .count → N .branch j .p ≤ N .nodes
   pub q-there : (j : ℕ) → j < N .count → N .branch j .q ≤ N .nodes
 
+-- a curve within the limits, with one slope more than it has breakpoints
 pub record CurveInLimits (slopes : List ℕ) (breakpoints : List ℤ) : Type 0 where
   pub some : 1 ≤ length breakpoints
   pub few : length breakpoints ≤ breakpointCountLimit

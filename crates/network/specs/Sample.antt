@@ -40,7 +40,7 @@ pub record Answer (N : Network) (x d v : ℕ → ℤ) : Type 0 where
 abbrev pub Empty : Network → (ℕ → ℤ) → (ℕ → ℤ) → Type 0
 Empty N x d = (w : ℕ → ℤ) → Legal N d w → Low N x w → ⊥
 
--- some free node stands at the top of the range; no free node does
+-- some free node stands at the top of the range, or no free node does
 pub record AtTop (N : Network) (v : ℕ → ℤ) : Type 0 where
   pub node : ℕ
   pub free : Free N node
@@ -49,7 +49,7 @@ pub record AtTop (N : Network) (v : ℕ → ℤ) : Type 0 where
 abbrev pub BelowTop : Network → (ℕ → ℤ) → Type 0
 BelowTop N v = (i : ℕ) → Free N i → v i <ℤ pos voltageLimit
 
--- what is refused by the rail number
+-- what is refused by the rail number: there is none, or the greatest has a free node at the top
 abbrev pub Rail : Network → (ℕ → ℤ) → (ℕ → ℤ) → Type 0
 Rail N x d = Empty N x d ⊎ ((v : ℕ → ℤ) × Answer N x d v × AtTop N v)
 
@@ -80,9 +80,11 @@ storedOf x driveRefused = x
 storedOf x railRefused = x
 storedOf x storedRefused = x
 
+-- no drive is beyond its limit
 abbrev pub DrivesLegal : Network → (ℕ → ℤ) → Type 0
 DrivesLegal N d = (j : ℕ) → j < N .driven → InDrive (d j)
 
+-- number 0: v is the answer, below the top, and y the stored currents after it, none beyond its limit
 pub record Accepted (N : Network) (x d v y : ℕ → ℤ) : Type 0 where
   pub drives : DrivesLegal N d
   pub answer : Answer N x d v
@@ -90,15 +92,18 @@ pub record Accepted (N : Network) (x d v y : ℕ → ℤ) : Type 0 where
   pub stored : (j : ℕ) → j < N .count → y j ≡ next N x v j
   pub kept : (j : ℕ) → j < N .count → Within storedLimit (y j)
 
+-- number 9: some drive is beyond its limit
 pub record DriveRefused (N : Network) (d : ℕ → ℤ) : Type 0 where
   pub drive : ℕ
   pub there : drive < N .driven
   pub beyond : driveLimit < natAbs (d drive)
 
+-- number 10
 pub record RailRefused (N : Network) (x d : ℕ → ℤ) : Type 0 where
   pub drives : DrivesLegal N d
   pub rail : Rail N x d
 
+-- number 11: there is an answer below the top, and after it some new stored current is beyond its limit
 pub record StoredRefused (N : Network) (x d : ℕ → ℤ) : Type 0 where
   pub drives : DrivesLegal N d
   pub voltages : ℕ → ℤ

@@ -5,7 +5,7 @@ use mathlib.Core.Logic.{_⊎_}
 use Prim.Native.Nat.{ℕ, suc, _≤_}
 use lib.Dec.{eqb, leb, ltb}
 use lib.IntN.{ℤ, pos, _+ℤ_, _-ℤ_}
-use lib.Signed.{_≤ℤ_, _<ℤ_, ltZ}
+use lib.Signed.{_<ℤ_, ltZ}
 use Rattle.units.specs.Voltage.{voltageLimit}
 use Rattle.network.specs.Network.{Network, Free, net}
 use Rattle.network.specs.Sample.{Legal, Low, Under}
@@ -37,7 +37,7 @@ lowered w i t j = cond (eqb j i) (w j -ℤ pos t) (w j)
 
 -- e is reached from s by lowering free nodes one after the other, each by r + 1 where its net current was above zero when lowered by r
 pub data Sank (N : Network) (x s : ℕ → ℤ) : (ℕ → ℤ) → Type 0 where
-  still : Sank N x s s
+  still : {e : ℕ → ℤ} → ((j : ℕ) → j ≤ N .nodes → e j ≡ s j) → Sank N x s e
   sunk : {e : ℕ → ℤ} (i r : ℕ) → Sank N x s e → Free N i → pos 0 <ℤ net 1 N x (lowered e i r) i → Sank N x s (lowered e i (suc r))
 
 -- ---- certifying
@@ -46,17 +46,13 @@ pub data Sank (N : Network) (x s : ℕ → ℤ) : (ℕ → ℤ) → Type 0 where
 unfoldable pub raised : Network → (ℕ → ℤ) → ℕ → ℤ
 raised N z j = cond (ltb (N .driven) j && (leb j (N .nodes) && ltZ (z j) (pos voltageLimit))) (z j +ℤ pos 1) (z j)
 
--- a node that waits to be visited stands one above z, a free node below the top
-abbrev pub Waits : Network → (ℕ → ℤ) → (ℕ → ℤ) → ℕ → Type 0
-Waits N z s j = (s j ≡ z j +ℤ pos 1) × Free N j × (z j <ℤ pos voltageLimit)
-
--- the visit has come to s: the nodes visited, and those that were never raised, are at z, and the others wait
+-- the visit has come to s: a node is back at z, or it waits where it was raised to
 pub record Visit (N : Network) (x z s : ℕ → ℤ) : Type 0 where
   pub sank : Sank N x (raised N z) s
-  pub each : (j : ℕ) → (s j ≡ z j) ⊎ Waits N z s j
+  pub each : (j : ℕ) → j ≤ N .nodes → (s j ≡ z j) ⊎ (s j ≡ raised N z j)
 
 -- the visit gets through: it comes to a place where no node waits
 pub record Through (N : Network) (x z : ℕ → ℤ) : Type 0 where
-  pub s : ℕ → ℤ
-  pub visit : Visit N x z s
-  pub back : (j : ℕ) → j ≤ N .nodes → s j ≡ z j
+  pub place : ℕ → ℤ
+  pub visit : Visit N x z place
+  pub back : (j : ℕ) → j ≤ N .nodes → place j ≡ z j
