@@ -12,7 +12,7 @@ use native.Mathlib.Nat.{mul-zero, zero-mul, mul-add, mul-le-mul-left}
 use lib.Dec.{leb, ltb, leb→le, le→leb, ltb→lt, lt→ltb, nleb→lt}
 use borrow.Author.Tests.{ltb-true, ltb-false}
 use lib.IntN.{ℤ, pos, negsuc, negℤ, natAbs, subℕ, _+ℤ_, _-ℤ_, _*ℤ_}
-use lib.Signed.{_≤ℤ_, _<ℤ_, leZ}
+use lib.Signed.{_≤ℤ_, _<ℤ_, leZ, ltZ}
 use Rattle.units.specs.Integer.{lower, higher}
 
 -- ---- a signed number as the difference of two naturals, one of which is 0
@@ -252,6 +252,12 @@ leZ-true a b e = record { le = rw e tt }
 
 pub leZ-false : (a b : ℤ) → leZ a b ≡ false → b <ℤ a
 leZ-false a b e = ⊎-elim {C = b <ℤ a} (λ (h : a ≤ℤ b). absurd (rw e at (h .le))) (λ (h : b <ℤ a). h) (decide a b)
+
+pub ltZ-true : (a b : ℤ) → ltZ a b ≡ true → a <ℤ b
+ltZ-true a b e = record { lt = rw e tt }
+
+pub ltZ-false : (a b : ℤ) → ltZ a b ≡ false → b ≤ℤ a
+ltZ-false a b e = ⊎-elim {C = b ≤ℤ a} (λ (h : b ≤ℤ a). h) (λ (h : a <ℤ b). absurd (rw e at (h .lt))) (decide b a)
 
 -- an order holds part by part
 pub parts : (a b : ℤ) → up a + dn b ≤ up b + dn a → (up a ≤ up b) × (dn b ≤ dn a)

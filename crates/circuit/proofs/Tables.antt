@@ -1,0 +1,38 @@
+-- A curve's slopes and breakpoints as lists, place by place. Assumes nothing.
+use mathlib.Core.Path.{_≡_, refl, ap}
+use mathlib.Core.List.{List}
+use Prim.Native.Nat.{ℕ, zero, suc, _<_, _≤_}
+use native.Mathlib.Omega.{arith}
+use lib.IntN.{ℤ}
+use lib.ListN.{length, getD}
+use Rattle.network.specs.Network.{reading}
+use Rattle.image.specs.Curve.{tabulate, slopeOf, breakpointOf, slopesOf, breakpointsOf}
+
+module _ {ℓ} {A : Type ℓ} where
+  tabulate-length : (f : ℕ → A) (n : ℕ) → length (tabulate f n) ≡ n
+  unfolding tabulate
+  tabulate-length f zero = refl
+  tabulate-length f (suc n) = ap suc (tabulate-length (λ (j : ℕ). f (suc j)) n)
+
+  tabulate-at : (f : ℕ → A) (n j : ℕ) (d : A) → j < n → getD (tabulate f n) j d ≡ f j
+  unfolding tabulate
+  tabulate-at f zero j d h = absurd (omega arith)
+  tabulate-at f (suc n) zero d h = refl
+  tabulate-at f (suc n) (suc j) d h = tabulate-at (λ (j : ℕ). f (suc j)) n j d (omega arith)
+
+module _ (c : List ℕ) where
+  pub slopes-length : length (slopesOf c) ≡ suc (getD c 0 0)
+  unfolding slopesOf
+  slopes-length = tabulate-length (slopeOf c) (suc (getD c 0 0))
+
+  pub breakpoints-length : length (breakpointsOf c) ≡ getD c 0 0
+  unfolding breakpointsOf
+  breakpoints-length = tabulate-length (breakpointOf c) (getD c 0 0)
+
+  pub slope-at : (j : ℕ) → j ≤ getD c 0 0 → getD (slopesOf c) j 0 ≡ slopeOf c j
+  unfolding slopesOf
+  slope-at j h = tabulate-at (slopeOf c) (suc (getD c 0 0)) j 0 (omega arith)
+
+  pub breakpoint-at : (j : ℕ) → j < getD c 0 0 → reading (breakpointsOf c) j ≡ breakpointOf c j
+  unfolding breakpointsOf
+  breakpoint-at j h = tabulate-at (breakpointOf c) (getD c 0 0) j _ h

@@ -1,0 +1,5 @@
+// The code of network's definitions over an accepted image: currents, net current, held conductance,
+// steepest sum, the advance of stored currents, and the least bound B.
+pub mod board;
+pub mod branch;
+mod curve;
