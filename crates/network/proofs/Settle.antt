@@ -28,7 +28,7 @@ bottom = negℤ (pos voltageLimit)
 pub settling-start : (N : Network) (x d z : ℕ → ℤ) → Legal N d z → Settling N x d z z
 settling-start N x d z legal = record { legal = legal; under = λ j l. omega signs; covers = λ w lw low under. under }
 
--- from a start
+-- from a start, what is settled is the answer, and where nothing is there is none at all
 pub settled-answer : (N : Network) (x d z v : ℕ → ℤ) → Above N x d z → Settled N x d z v → Answer N x d v
 settled-answer N x d z v above s = record { legal = s .settling .legal; low = s .low; highest = λ w legal low. s .settling .covers w legal low (above w legal low) }
 
@@ -36,7 +36,7 @@ pub none-empty : (N : Network) (x d z : ℕ → ℤ) → Above N x d z → NoneU
 none-empty N x d z above none w legal low = none w legal low (above w legal low)
 
 -- a node that must leave the range shows that there is none
-pub out-of-range : (N : Network) (x d z u : ℕ → ℤ) (i : ℕ) → Covers N x d z u → Free N i → u i <ℤ bottom → NoneUnder N x d z
+out-of-range : (N : Network) (x d z u : ℕ → ℤ) (i : ℕ) → Covers N x d z u → Free N i → u i <ℤ bottom → NoneUnder N x d z
 out-of-range N x d z u i covers free out w legal low under =
     omega (signs, covers w legal low under i (free .1), neg-law (pos voltageLimit), pos-law voltageLimit, legal .range i free, abs-law (w i))
 
@@ -54,6 +54,7 @@ module _ (N : Network) (x d z v : ℕ → ℤ) (s : Settling N x d z v) where
     covers = covers;
   }
 
+  -- .. as with one node lowered
   module _ (i : ℕ) (free : Free N i) where
     lowered-settling : (t : ℕ) → Covers N x d z (lowered v i t) → bottom ≤ℤ (v i -ℤ pos t) → Settling N x d z (lowered v i t)
     lowered-settling t covers over = settling-at (lowered v i t) covers (lowered-drives N d v i t free (s .legal .drives)) (λ j l. lowered-under v i t j) range
@@ -65,14 +66,17 @@ module _ (N : Network) (x d z v : ℕ → ℤ) (s : Settling N x d z v) where
 
   -- ---- Step: node i lowered by r + 1, where one evaluation shows its net current above zero when lowered by r
   module _ (i r : ℕ) (wired : Wired N) (free : Free N i) (high : pos 0 <ℤ net 1 N x (lowered v i r) i) where
-    pub step-covers : Covers N x d z (lowered v i (suc r))
+    step-covers : Covers N x d z (lowered v i (suc r))
     step-covers w legal low under =
         descend N x d v v (lowered v i (suc r)) w wired (s .legal .drives) (sunk i r (still (λ j l. refl)) free high) (λ j l. inl (omega signs)) legal low (s .covers w legal low under)
 
     pub step-settling : bottom ≤ℤ (v i -ℤ pos (suc r)) → Settling N x d z (lowered v i (suc r))
     step-settling over = lowered-settling i free (suc r) step-covers over
 
-    -- .. or kept where it was evaluated, to step on from there
+    pub step-none : (v i -ℤ pos (suc r)) <ℤ bottom → NoneUnder N x d z
+    step-none out = out-of-range N x d z (lowered v i (suc r)) i step-covers free (rw (lowered-here v i (suc r)) out)
+
+    -- the node may also be kept where it was evaluated, to step on from there
     pub keep-settling : bottom ≤ℤ (v i -ℤ pos r) → Settling N x d z (lowered v i r)
     keep-settling over = lowered-settling i free r (λ w legal low under j l. omega (signs, step-covers w legal low under j l, lowered-further v i r j)) over
 
@@ -81,11 +85,14 @@ module _ (N : Network) (x d z v : ℕ → ℤ) (s : Settling N x d z v) where
     leap-drives : Drives 1 N d s₁
     leap-drives = keep-drives v s₁ (s .legal .drives) same
 
-    pub leap-covers : Covers N x d z e
+    leap-covers : Covers N x d z e
     leap-covers w legal low under = descend N x d v s₁ e w wired leap-drives sank falls legal low (s .covers w legal low under)
 
     pub leap-settling : ((i : ℕ) → Free N i → bottom ≤ℤ e i) → Settling N x d z e
     leap-settling = settling-at e leap-covers (sank-drives d wired sank leap-drives) (λ j l. omega (signs, sank-under sank j l, lower j l))
+
+    pub leap-none : (i : ℕ) → Free N i → e i <ℤ bottom → NoneUnder N x d z
+    leap-none i free out = out-of-range N x d z e i leap-covers free out
 
 -- ---- Step by the net current over the steepest sum, rounded up: it never passes the answer
 
@@ -93,7 +100,7 @@ module _ (N : Network) (x d z v : ℕ → ℤ) (s : Settling N x d z v) where
 abbrev pub stepOf : Network → (ℕ → ℤ) → (ℕ → ℤ) → ℕ → ℕ
 stepOf N x v i = roundedUp (natAbs (net 1 N x v i)) (steepest N i)
 
-pub step-allowed : (N : Network) (x v : ℕ → ℤ) (i : ℕ) → Wired N → 1 ≤ N .leak → pos 0 <ℤ net 1 N x v i → (r : ℕ) × (stepOf N x v i ≡ suc r) × (pos 0 <ℤ net 1 N x (lowered v i r) i)
+step-allowed : (N : Network) (x v : ℕ → ℤ) (i : ℕ) → Wired N → 1 ≤ N .leak → pos 0 <ℤ net 1 N x v i → (r : ℕ) × (stepOf N x v i ≡ suc r) × (pos 0 <ℤ net 1 N x (lowered v i r) i)
 step-allowed N x v i wired leaks high = go (roundedUp (natAbs f) S) refl
   where
     f : ℤ
@@ -126,31 +133,31 @@ module _ (N : Network) (x d z : ℕ → ℤ) (l : List ℤ) (i : ℕ) (wired : W
   to-store : (P : (ℕ → ℤ) → Type 0) (t : ℕ) → P (lowered (reading l) i t) → P (reading (down t))
   to-store P t h = subst P (sym (store-lowers l i t short)) h
 
-  -- any r that one more evaluation shows
+  -- by r + 1, for any r at which one more evaluation shows the net current above zero
   module _ (r : ℕ) (high : pos 0 <ℤ net 1 N x (reading (down r)) i) where
     still-high : pos 0 <ℤ net 1 N x (lowered (reading l) i r) i
     still-high = from-store (λ (u : ℕ → ℤ). pos 0 <ℤ net 1 N x u i) r high
 
-    pub step-covers-list : Covers N x d z (reading (down (suc r)))
-    step-covers-list = to-store (λ (u : ℕ → ℤ). Covers N x d z u) (suc r) (step-covers N x d z (reading l) s i r wired free still-high)
-
     pub step-settling-list : bottom ≤ℤ (reading l i -ℤ pos (suc r)) → Settling N x d z (reading (down (suc r)))
     step-settling-list over = to-store (λ (u : ℕ → ℤ). Settling N x d z u) (suc r) (step-settling N x d z (reading l) s i r wired free still-high over)
+
+    pub step-none-list : (reading l i -ℤ pos (suc r)) <ℤ bottom → NoneUnder N x d z
+    step-none-list out = step-none N x d z (reading l) s i r wired free still-high out
 
     pub keep-settling-list : bottom ≤ℤ (reading l i -ℤ pos r) → Settling N x d z (reading (down r))
     keep-settling-list over = to-store (λ (u : ℕ → ℤ). Settling N x d z u) r (keep-settling N x d z (reading l) s i r wired free still-high over)
 
-  -- and the one that the steepest sum allows
+  -- and by what the steepest sum allows
   module _ (leaks : 1 ≤ N .leak) (high : pos 0 <ℤ net 1 N x (reading l) i) where
-    pub ceil-covers-list : Covers N x d z (reading (down (stepOf N x (reading l) i)))
-    ceil-covers-list =
-        let a = step-allowed N x (reading l) i wired leaks high in
-        rw (a .1) (to-store (λ (u : ℕ → ℤ). Covers N x d z u) (suc (a .0)) (step-covers N x d z (reading l) s i (a .0) wired free (a .2)))
-
     pub ceil-settling-list : bottom ≤ℤ (reading l i -ℤ pos (stepOf N x (reading l) i)) → Settling N x d z (reading (down (stepOf N x (reading l) i)))
     ceil-settling-list over =
         let a = step-allowed N x (reading l) i wired leaks high in
         rw (a .1) (to-store (λ (u : ℕ → ℤ). Settling N x d z u) (suc (a .0)) (step-settling N x d z (reading l) s i (a .0) wired free (a .2) (rw (a .1) at over)))
+
+    pub ceil-none-list : (reading l i -ℤ pos (stepOf N x (reading l) i)) <ℤ bottom → NoneUnder N x d z
+    ceil-none-list out =
+        let a = step-allowed N x (reading l) i wired leaks high in
+        step-none N x d z (reading l) s i (a .0) wired free (a .2) (rw (a .1) at out)
 
 -- ---- what falls: how high the nodes stand above the bottom
 
