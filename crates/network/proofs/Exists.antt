@@ -17,7 +17,8 @@ use Rattle.network.specs.Search.{Settling, lowered}
 use Rattle.network.proofs.Nodes.{find}
 use Rattle.network.proofs.Hold.{top-start}
 use Rattle.network.proofs.Lowering.{lowered-here, lowered-under, lowered-none}
-use Rattle.network.proofs.Settle.{bottom, settling-start, settled-answer, none-empty, step-settling, step-none, height, height-falls}
+use Rattle.network.proofs.Settle.{settling-start, settled-answer, none-empty, step-settling, step-none}
+use Rattle.network.proofs.Measures.{bottom, height, height-falls}
 
 -- the drives, and every free node at the top
 topOf : Network → (ℕ → ℤ) → ℕ → ℤ
