@@ -23,7 +23,7 @@ use Rattle.network.proofs.Compare.{others-rise}
 use Rattle.network.proofs.Hold.{same-fixed, keep-drives}
 use Rattle.network.proofs.Lowering.{lowered-law, lowered-here, lowered-under, store-lowers}
 use Rattle.network.proofs.Descend.{descend, sunk-one}
-use Rattle.network.proofs.Settle.{height, height-falls}
+use Rattle.network.proofs.Measures.{height, height-falls}
 
 -- ---- the visit
 

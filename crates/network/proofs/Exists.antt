@@ -17,7 +17,8 @@ use Rattle.network.specs.Search.{Settling, lowered}
 use Rattle.network.proofs.Nodes.{find}
 use Rattle.network.proofs.Hold.{top-start}
 use Rattle.network.proofs.Lowering.{lowered-here, lowered-under, lowered-none}
-use Rattle.network.proofs.Settle.{bottom, settling-start, settled-answer, none-empty, out-of-range, step-covers, step-settling, height, height-falls}
+use Rattle.network.proofs.Settle.{settling-start, settled-answer, none-empty, step-settling, step-none}
+use Rattle.network.proofs.Measures.{bottom, height, height-falls}
 
 -- the drives, and every free node at the top
 topOf : Network → (ℕ → ℤ) → ℕ → ℤ
@@ -65,7 +66,7 @@ module _ (N : Network) (x d : ℕ → ℤ) (wired : Wired N) where
       found i free high = ⊎-elim
           (λ (inside : bottom ≤ℤ (v i -ℤ pos 1)). again (lowered v i 1) (step-settling N x d (topOf N d) v s i 0 wired free high inside)
           (height-falls N (lowered v i 1) v i (free .1) (λ j l. lowered-under v i 1 j) (omega (signs, lowered-here v i 1, sub-law (v i) (pos 1), pos-law 1)) (omega (signs, sub-law (v i) (pos 1), pos-law 1))))
-          (λ (out : (v i -ℤ pos 1) <ℤ bottom). inr (none-empty N x d (topOf N d) above (out-of-range N x d (topOf N d) (lowered v i 1) i (step-covers N x d (topOf N d) v s i 0 wired free high) free (rw (lowered-here v i 1) out))))
+          (λ (out : (v i -ℤ pos 1) <ℤ bottom). inr (none-empty N x d (topOf N d) above (step-none N x d (topOf N d) v s i 0 wired free high out)))
           (decide bottom (v i -ℤ pos 1))
 
   run : (fuel : ℕ) (v : ℕ → ℤ) → Settling N x d z v → height N v ≤ fuel → Settles

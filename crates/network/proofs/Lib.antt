@@ -4,6 +4,7 @@ pub mod Companions
 pub mod Compare
 pub mod Hold
 pub mod Lowering
+pub mod Measures
 pub mod Descend
 pub mod Settle
 pub mod Certify

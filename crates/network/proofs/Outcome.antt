@@ -1,12 +1,13 @@
--- A sample has one outcome only. Assumes nothing.
-use mathlib.Core.Path.{_≡_, refl, sym, _∙_}
-use mathlib.Core.Logic.{inl, inr}
-use Prim.Native.Nat.{ℕ, _≤_, _<_}
+-- A sample has one outcome only, and it depends on nothing but the stored currents and drives that are there. Assumes nothing.
+use mathlib.Core.Path.{_≡_, refl, sym, _∙_, ap}
+use mathlib.Core.Logic.{inl, inr, ⊎-elim}
+use Prim.Native.Nat.{ℕ, zero, suc, _≤_, _<_}
 use native.Mathlib.Omega.{arith}
-use lib.IntN.{ℤ}
+use lib.IntN.{ℤ, pos, _*ℤ_}
+use Rattle.units.specs.Integer.{sum}
 use Rattle.units.proofs.Integers.{signs}
-use Rattle.network.specs.Network.{Network, Wired, next}
-use Rattle.network.specs.Sample.{Answer, Rail, AtTop, BelowTop, Outcome, accepted, driveRefused, railRefused, storedRefused, DrivesLegal, Accepted, DriveRefused, StoredRefused, Gives, Same}
+use Rattle.network.specs.Network.{Network, Wired, leaving, net, next}
+use Rattle.network.specs.Sample.{Legal, Low, Answer, Empty, Rail, AtTop, BelowTop, Outcome, accepted, driveRefused, railRefused, storedRefused, DrivesLegal, Accepted, DriveRefused, StoredRefused, Gives, Same}
 
 -- two answers stand alike at every node
 pub one-answer : (N : Network) (x d v u : ℕ → ℤ) → Answer N x d v → Answer N x d u → (j : ℕ) → j ≤ N .nodes → v j ≡ u j
@@ -55,3 +56,60 @@ module _ (N : Network) (x d : ℕ → ℤ) (wired : Wired N) where
   one-outcome storedRefused driveRefused a b = absurd (no-drive (a .drives) b)
   one-outcome storedRefused railRefused a b = absurd (not-rail N x d (a .voltages) (a .answer) (a .below) (b .rail))
   one-outcome storedRefused storedRefused a b = record { number = refl; voltages = λ j l. refl; stored = λ j l. refl }
+
+-- ---- stored currents and drives that agree where they are read have the same outcomes: samples can be joined one to the next
+
+sum-alike : (f g : ℕ → ℤ) (n : ℕ) → ((j : ℕ) → j < n → f j ≡ g j) → sum f n ≡ sum g n
+unfolding sum
+sum-alike f g zero same = refl
+sum-alike f g (suc n) same = rw (sum-alike f g n (λ j l. same j (omega arith)), same n (omega arith))
+
+legal-alike : (N : Network) (d₁ d₂ w : ℕ → ℤ) → ((j : ℕ) → j < N .driven → d₁ j ≡ d₂ j) → Legal N d₁ w → Legal N d₂ w
+legal-alike N d₁ d₂ w same l = record { drives = record { ground = l .drives .ground; driven = λ j h. l .drives .driven j h ∙ ap (λ (z : ℤ). pos 1 *ℤ z) (same j h) }; range = l .range }
+
+low-alike : (N : Network) (x₁ x₂ w : ℕ → ℤ) → ((j : ℕ) → j < N .count → x₁ j ≡ x₂ j) → Low N x₁ w → Low N x₂ w
+unfolding net
+low-alike N x₁ x₂ w same low i f =
+    let part : (ℕ → ℤ) → ℕ → ℤ = λ x j. leaving 1 (N .branch j) (x j) w i in
+    rw (← sum-alike (part x₁) (part x₂) (N .count) (λ j l. ap (λ (z : ℤ). leaving 1 (N .branch j) z w i) (same j l))) (low i f)
+
+module _ (N : Network) (x₁ x₂ d₁ d₂ : ℕ → ℤ) (same-x : (j : ℕ) → j < N .count → x₁ j ≡ x₂ j) (same-d : (j : ℕ) → j < N .driven → d₁ j ≡ d₂ j) where
+  next-alike : (v : ℕ → ℤ) (j : ℕ) → j < N .count → next N x₁ v j ≡ next N x₂ v j
+  unfolding next
+  next-alike v j l = rw (same-x j l)
+
+  -- what is legal and low for the second is so for the first
+  back : (w : ℕ → ℤ) → Legal N d₂ w → Low N x₂ w → Legal N d₁ w × Low N x₁ w
+  back w legal low = (legal-alike N d₂ d₁ w (λ j l. sym (same-d j l)) legal, low-alike N x₂ x₁ w (λ j l. sym (same-x j l)) low)
+
+  empty-alike : Empty N x₁ d₁ → Empty N x₂ d₂
+  empty-alike none w legal low = let b = back w legal low in none w (b .0) (b .1)
+
+  answer-alike : (v : ℕ → ℤ) → Answer N x₁ d₁ v → Answer N x₂ d₂ v
+  answer-alike v a = record {
+    legal = legal-alike N d₁ d₂ v same-d (a .legal);
+    low = low-alike N x₁ x₂ v same-x (a .low);
+    highest = λ w legal low. let b = back w legal low in a .highest w (b .0) (b .1);
+  }
+
+  drives-alike : DrivesLegal N d₁ → DrivesLegal N d₂
+  drives-alike h j l = rw (← same-d j l) (h j l)
+
+  pub gives-alike : (o : Outcome) → Gives N x₁ d₁ o → Gives N x₂ d₂ o
+  gives-alike (accepted v y) a = record { drives = drives-alike (a .drives); answer = answer-alike v (a .answer); below = a .below; stored = λ j l. a .stored j l ∙ next-alike v j l; kept = a .kept }
+  gives-alike driveRefused r = record { drive = r .drive; there = r .there; beyond = rw (← same-d (r .drive) (r .there)) (r .beyond) }
+  gives-alike railRefused r = record {
+    drives = drives-alike (r .drives);
+    rail = ⊎-elim
+        (λ (none : Empty N x₁ d₁). inl (empty-alike none))
+        (λ (t : (v : ℕ → ℤ) × Answer N x₁ d₁ v × AtTop N v). inr (t .0, answer-alike (t .0) (t .1), t .2)) (r .rail);
+  }
+  gives-alike storedRefused r = record {
+    drives = drives-alike (r .drives);
+    voltages = r .voltages;
+    answer = answer-alike (r .voltages) (r .answer);
+    below = r .below;
+    branch = r .branch;
+    there = r .there;
+    beyond = rw (← next-alike (r .voltages) (r .branch) (r .there)) (r .beyond);
+  }

@@ -1,34 +1,31 @@
--- Settle: from voltages z, by Step and Leap, to the greatest legal low assignment under z, or that there is none. `Settling` is what holds all along,
--- `height` is what falls. From a start (Hold) what is settled is the answer. The list forms speak of `set` and `reading`. Assumes nothing.
+-- Settle: from voltages z, by Step and Leap, to the greatest legal low assignment under z, or that there is none. `Settling` is what holds all along, and
+-- Measures has what falls. From a start (Hold) what is settled is the answer. The list forms speak of `set` and `reading`. Assumes nothing.
 use mathlib.Core.Path.{_≡_, refl, sym, subst}
 use mathlib.Core.List.{List}
 use mathlib.Core.Logic.{_⊎_, inl, ⊎-elim}
 use Prim.Native.Nat.{ℕ, zero, suc, _+_, _*_, _≤_, _<_}
 use native.Mathlib.Omega.{arith}
 use lib.ListN.{length, set}
-use lib.IntN.{ℤ, pos, negℤ, natAbs, _+ℤ_, _-ℤ_}
+use lib.IntN.{ℤ, pos, natAbs, _-ℤ_}
 use lib.Signed.{_≤ℤ_, _<ℤ_}
-use Rattle.units.specs.Integer.{total, roundedUp}
+use Rattle.units.specs.Integer.{roundedUp}
 use Rattle.units.specs.Voltage.{voltageLimit}
-use Rattle.units.proofs.Integers.{up, dn, signs, add-law, sub-law, neg-law, pos-law, abs-law, one-sided, parts, decideN}
+use Rattle.units.proofs.Integers.{up, dn, signs, neg-law, pos-law, abs-law, one-sided}
 use Rattle.units.proofs.Sizes.{abs-within, rounded-up-law}
 use Rattle.network.specs.Network.{Network, Fixed, Free, reading, net, steepest, Wired}
 use Rattle.network.specs.Sample.{Drives, Legal, Under, Above, Answer, Empty}
 use Rattle.network.specs.Search.{Covers, Settling, Settled, NoneUnder, lowered, Sank, still, sunk}
 use Rattle.network.proofs.Hold.{keep-drives, leak-steepest}
 use Rattle.network.proofs.Lowering.{lowered-law, lowered-here, lowered-under, lowered-further, store-lowers}
+use Rattle.network.proofs.Measures.{bottom}
 use Rattle.network.proofs.Descend.{descend, sank-under, sank-drives, lowered-drives, allowed}
-
--- the bottom of the range
-abbrev pub bottom : ℤ
-bottom = negℤ (pos voltageLimit)
 
 -- ---- beginning and end
 
 pub settling-start : (N : Network) (x d z : ℕ → ℤ) → Legal N d z → Settling N x d z z
 settling-start N x d z legal = record { legal = legal; under = λ j l. omega signs; covers = λ w lw low under. under }
 
--- from a start
+-- from a start, what is settled is the answer, and where nothing is there is none at all
 pub settled-answer : (N : Network) (x d z v : ℕ → ℤ) → Above N x d z → Settled N x d z v → Answer N x d v
 settled-answer N x d z v above s = record { legal = s .settling .legal; low = s .low; highest = λ w legal low. s .settling .covers w legal low (above w legal low) }
 
@@ -36,7 +33,7 @@ pub none-empty : (N : Network) (x d z : ℕ → ℤ) → Above N x d z → NoneU
 none-empty N x d z above none w legal low = none w legal low (above w legal low)
 
 -- a node that must leave the range shows that there is none
-pub out-of-range : (N : Network) (x d z u : ℕ → ℤ) (i : ℕ) → Covers N x d z u → Free N i → u i <ℤ bottom → NoneUnder N x d z
+out-of-range : (N : Network) (x d z u : ℕ → ℤ) (i : ℕ) → Covers N x d z u → Free N i → u i <ℤ bottom → NoneUnder N x d z
 out-of-range N x d z u i covers free out w legal low under =
     omega (signs, covers w legal low under i (free .1), neg-law (pos voltageLimit), pos-law voltageLimit, legal .range i free, abs-law (w i))
 
@@ -54,6 +51,7 @@ module _ (N : Network) (x d z v : ℕ → ℤ) (s : Settling N x d z v) where
     covers = covers;
   }
 
+  -- .. as with one node lowered
   module _ (i : ℕ) (free : Free N i) where
     lowered-settling : (t : ℕ) → Covers N x d z (lowered v i t) → bottom ≤ℤ (v i -ℤ pos t) → Settling N x d z (lowered v i t)
     lowered-settling t covers over = settling-at (lowered v i t) covers (lowered-drives N d v i t free (s .legal .drives)) (λ j l. lowered-under v i t j) range
@@ -65,14 +63,17 @@ module _ (N : Network) (x d z v : ℕ → ℤ) (s : Settling N x d z v) where
 
   -- ---- Step: node i lowered by r + 1, where one evaluation shows its net current above zero when lowered by r
   module _ (i r : ℕ) (wired : Wired N) (free : Free N i) (high : pos 0 <ℤ net 1 N x (lowered v i r) i) where
-    pub step-covers : Covers N x d z (lowered v i (suc r))
+    step-covers : Covers N x d z (lowered v i (suc r))
     step-covers w legal low under =
         descend N x d v v (lowered v i (suc r)) w wired (s .legal .drives) (sunk i r (still (λ j l. refl)) free high) (λ j l. inl (omega signs)) legal low (s .covers w legal low under)
 
     pub step-settling : bottom ≤ℤ (v i -ℤ pos (suc r)) → Settling N x d z (lowered v i (suc r))
     step-settling over = lowered-settling i free (suc r) step-covers over
 
-    -- .. or kept where it was evaluated, to step on from there
+    pub step-none : (v i -ℤ pos (suc r)) <ℤ bottom → NoneUnder N x d z
+    step-none out = out-of-range N x d z (lowered v i (suc r)) i step-covers free (rw (lowered-here v i (suc r)) out)
+
+    -- the node may also be kept where it was evaluated, to step on from there
     pub keep-settling : bottom ≤ℤ (v i -ℤ pos r) → Settling N x d z (lowered v i r)
     keep-settling over = lowered-settling i free r (λ w legal low under j l. omega (signs, step-covers w legal low under j l, lowered-further v i r j)) over
 
@@ -81,11 +82,14 @@ module _ (N : Network) (x d z v : ℕ → ℤ) (s : Settling N x d z v) where
     leap-drives : Drives 1 N d s₁
     leap-drives = keep-drives v s₁ (s .legal .drives) same
 
-    pub leap-covers : Covers N x d z e
+    leap-covers : Covers N x d z e
     leap-covers w legal low under = descend N x d v s₁ e w wired leap-drives sank falls legal low (s .covers w legal low under)
 
     pub leap-settling : ((i : ℕ) → Free N i → bottom ≤ℤ e i) → Settling N x d z e
     leap-settling = settling-at e leap-covers (sank-drives d wired sank leap-drives) (λ j l. omega (signs, sank-under sank j l, lower j l))
+
+    pub leap-none : (i : ℕ) → Free N i → e i <ℤ bottom → NoneUnder N x d z
+    leap-none i free out = out-of-range N x d z e i leap-covers free out
 
 -- ---- Step by the net current over the steepest sum, rounded up: it never passes the answer
 
@@ -93,7 +97,7 @@ module _ (N : Network) (x d z v : ℕ → ℤ) (s : Settling N x d z v) where
 abbrev pub stepOf : Network → (ℕ → ℤ) → (ℕ → ℤ) → ℕ → ℕ
 stepOf N x v i = roundedUp (natAbs (net 1 N x v i)) (steepest N i)
 
-pub step-allowed : (N : Network) (x v : ℕ → ℤ) (i : ℕ) → Wired N → 1 ≤ N .leak → pos 0 <ℤ net 1 N x v i → (r : ℕ) × (stepOf N x v i ≡ suc r) × (pos 0 <ℤ net 1 N x (lowered v i r) i)
+step-allowed : (N : Network) (x v : ℕ → ℤ) (i : ℕ) → Wired N → 1 ≤ N .leak → pos 0 <ℤ net 1 N x v i → (r : ℕ) × (stepOf N x v i ≡ suc r) × (pos 0 <ℤ net 1 N x (lowered v i r) i)
 step-allowed N x v i wired leaks high = go (roundedUp (natAbs f) S) refl
   where
     f : ℤ
@@ -126,63 +130,28 @@ module _ (N : Network) (x d z : ℕ → ℤ) (l : List ℤ) (i : ℕ) (wired : W
   to-store : (P : (ℕ → ℤ) → Type 0) (t : ℕ) → P (lowered (reading l) i t) → P (reading (down t))
   to-store P t h = subst P (sym (store-lowers l i t short)) h
 
-  -- any r that one more evaluation shows
+  -- by r + 1, for any r at which one more evaluation shows the net current above zero
   module _ (r : ℕ) (high : pos 0 <ℤ net 1 N x (reading (down r)) i) where
     still-high : pos 0 <ℤ net 1 N x (lowered (reading l) i r) i
     still-high = from-store (λ (u : ℕ → ℤ). pos 0 <ℤ net 1 N x u i) r high
 
-    pub step-covers-list : Covers N x d z (reading (down (suc r)))
-    step-covers-list = to-store (λ (u : ℕ → ℤ). Covers N x d z u) (suc r) (step-covers N x d z (reading l) s i r wired free still-high)
-
     pub step-settling-list : bottom ≤ℤ (reading l i -ℤ pos (suc r)) → Settling N x d z (reading (down (suc r)))
     step-settling-list over = to-store (λ (u : ℕ → ℤ). Settling N x d z u) (suc r) (step-settling N x d z (reading l) s i r wired free still-high over)
+
+    pub step-none-list : (reading l i -ℤ pos (suc r)) <ℤ bottom → NoneUnder N x d z
+    step-none-list out = step-none N x d z (reading l) s i r wired free still-high out
 
     pub keep-settling-list : bottom ≤ℤ (reading l i -ℤ pos r) → Settling N x d z (reading (down r))
     keep-settling-list over = to-store (λ (u : ℕ → ℤ). Settling N x d z u) r (keep-settling N x d z (reading l) s i r wired free still-high over)
 
-  -- and the one that the steepest sum allows
+  -- and by what the steepest sum allows
   module _ (leaks : 1 ≤ N .leak) (high : pos 0 <ℤ net 1 N x (reading l) i) where
-    pub ceil-covers-list : Covers N x d z (reading (down (stepOf N x (reading l) i)))
-    ceil-covers-list =
-        let a = step-allowed N x (reading l) i wired leaks high in
-        rw (a .1) (to-store (λ (u : ℕ → ℤ). Covers N x d z u) (suc (a .0)) (step-covers N x d z (reading l) s i (a .0) wired free (a .2)))
-
     pub ceil-settling-list : bottom ≤ℤ (reading l i -ℤ pos (stepOf N x (reading l) i)) → Settling N x d z (reading (down (stepOf N x (reading l) i)))
     ceil-settling-list over =
         let a = step-allowed N x (reading l) i wired leaks high in
         rw (a .1) (to-store (λ (u : ℕ → ℤ). Settling N x d z u) (suc (a .0)) (step-settling N x d z (reading l) s i (a .0) wired free (a .2) (rw (a .1) at over)))
 
--- ---- what falls: how high the nodes stand above the bottom
-
-unfoldable pub height : Network → (ℕ → ℤ) → ℕ
-height N v = total (λ (j : ℕ). up (v j +ℤ pos voltageLimit)) (suc (N .nodes))
-
-total-le : (f g : ℕ → ℕ) (n : ℕ) → ((j : ℕ) → j < n → g j ≤ f j) → total g n ≤ total f n
-unfolding total
-total-le f g zero h = omega arith
-total-le f g (suc n) h = omega (arith, total-le f g n (λ j l. h j (omega arith)), h n (omega arith))
-
-total-less : (f g : ℕ → ℕ) (n i : ℕ) → i < n → g i < f i → ((j : ℕ) → j < n → g j ≤ f j) → total g n < total f n
-unfolding total
-total-less f g zero i l less h = absurd (omega arith)
-total-less f g (suc n) i l less h = ⊎-elim
-    (λ (m : suc i ≤ n). omega (arith, total-less f g n i m less (λ j l. h j (omega arith)), h n (omega arith)))
-    (λ (m : n < suc i). let e : n ≡ i = omega arith in rw e (omega (arith, total-le f g i (λ j l. h j (omega arith))))) (decideN (suc i) n)
-
-up-less : (a b : ℤ) → up a + dn b < up b + dn a → 0 < up b → up a < up b
-up-less a b h k = ⊎-elim (λ (z : dn a ≡ 0). omega arith) (λ (z : up a ≡ 0). omega arith) (one-sided a)
-
--- u is nowhere higher than v, and at node i, which was above the bottom, lower
-pub height-falls : (N : Network) (u v : ℕ → ℤ) (i : ℕ) → i ≤ N .nodes → Under N u v → u i <ℤ v i → bottom <ℤ v i → height N u < height N v
-unfolding height
-height-falls N u v i there below less over =
-    let L = pos voltageLimit in
-    total-less (λ (j : ℕ). up (v j +ℤ L)) (λ (j : ℕ). up (u j +ℤ L)) (suc (N .nodes)) i (omega arith)
-    (up-less (u i +ℤ L) (v i +ℤ L) (omega (signs, add-law (u i) L, add-law (v i) L)) (omega (signs, add-law (v i) L, neg-law L, pos-law voltageLimit)))
-    (λ j l. parts (u j +ℤ L) (v j +ℤ L) (omega (signs, below j (omega arith), add-law (u j) L, add-law (v j) L)) .0)
-
-pub height-falls-list : (N : Network) (l : List ℤ) (i t : ℕ) → i < length l → i ≤ N .nodes → 0 < t → bottom <ℤ reading l i → height N (reading (set l i (reading l i -ℤ pos t))) < height N (reading l)
-height-falls-list N l i t short there some over =
-    let u = lowered (reading l) i t in
-    subst (λ (u : ℕ → ℤ). height N u < height N (reading l)) (sym (store-lowers l i t short))
-    (height-falls N u (reading l) i there (λ j h. lowered-under (reading l) i t j) (omega (signs, lowered-here (reading l) i t, sub-law (reading l i) (pos t), pos-law t)) over)
+    pub ceil-none-list : (reading l i -ℤ pos (stepOf N x (reading l) i)) <ℤ bottom → NoneUnder N x d z
+    ceil-none-list out =
+        let a = step-allowed N x (reading l) i wired leaks high in
+        step-none N x d z (reading l) s i (a .0) wired free (a .2) (rw (a .1) at out)
