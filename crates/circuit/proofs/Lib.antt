@@ -1,2 +1,4 @@
+pub mod BoardLaws
+pub mod CurveLaws
 pub mod Lines
 pub mod Tables

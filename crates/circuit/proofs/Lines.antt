@@ -12,11 +12,7 @@ use lib.Signed.{_≤ℤ_, _<ℤ_, leZ}
 use Rattle.units.specs.Integer.{lower, higher}
 use Rattle.units.proofs.Integers.{signs, add-law, sub-law, pos-law, leZ-true, leZ-false, ordered, crossed, scale-one}
 use Rattle.network.specs.Network.{curve, reading, ramp, current}
-use Rattle.circuit.specs.Line.{stretchOf, offset, atZero}
-
--- breakpoints rise strictly
-abbrev pub Rising : List ℤ → Type 0
-Rising bs = (i : ℕ) → suc i < length bs → reading bs i <ℤ reading bs (suc i)
+use Rattle.circuit.specs.Line.{Rising, stretchOf, offset, atZero}
 
 -- what all lines of a curve share
 shared : List ℕ → List ℤ → ℤ
@@ -102,3 +98,12 @@ stretch-is [] v (suc j) l below above = absurd (omega arith)
 stretch-is (b ∷ bs) v (suc j) l below above =
     let e : leZ b v ≡ true = is-true (leZ b v) (below 0 (omega arith) .le) in
     rw e (ap suc (stretch-is bs v j (omega arith) (λ i h. below (suc i) (omega arith)) (λ h. above (omega arith))))
+
+pub stretch-there : (bs : List ℤ) (v : ℤ) → stretchOf bs v ≤ length bs
+unfolding stretchOf
+stretch-there [] v = omega arith
+stretch-there (b ∷ bs) v = go (leZ b v) (stretch-there bs v)
+  where
+    go : (t : Bool) → stretchOf bs v ≤ length bs → cond t (suc (stretchOf bs v)) 0 ≤ suc (length bs)
+    go true h = omega arith
+    go false h = omega arith

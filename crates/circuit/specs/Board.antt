@@ -3,15 +3,17 @@
 -- or for a diode where its curve starts in the image), and for a diode where its curve's lines start in the table of lines.
 use mathlib.Core.Path.{_≡_}
 use mathlib.Core.List.{List}
-use Prim.Native.Nat.{ℕ, suc, _+_, _*_, _≤_, _<_}
-use lib.IntN.{ℤ}
+use Prim.Native.Nat.{ℕ, _+_, _*_, _≤_, _<_}
+use lib.IntN.{ℤ, pos, _-ℤ_}
+use lib.Dec.{eqb}
 use lib.ListN.{length, getD}
-use lib.Signed.{_<ℤ_}
 use Rattle.units.specs.Voltage.{Within, InRange}
-use Rattle.network.specs.Network.{Branch, Network, reading, InLimits, storedLimit}
+use Rattle.network.specs.Network.{curve, current, pick, Branch, Network, reading, CurveInLimits, InLimits, storedLimit}
 use Rattle.image.specs.Curve.{breakpointsAt, curveLength, curveBytes, slopesOf, breakpointsOf}
 use Rattle.image.specs.Circuit.{diodeKind, lawOf, storeOf}
-use Rattle.circuit.specs.Line.{atZero}
+use Rattle.circuit.specs.declared.branch.End.{End}
+use Rattle.circuit.specs.declared.branch.End.the-variants.{P, Q, Neither}
+use Rattle.circuit.specs.Line.{Rising, atZero}
 
 abbrev pub leakOn : List ℕ → ℕ
 leakOn board = getD board 0 0
@@ -58,18 +60,27 @@ networkOn image board = record {
   branch = branchOn image board;
 }
 
--- a curve that lies in the image, with m breakpoints that rise strictly, and its lines in the table
-pub record DiodeOn (image board : List ℕ) (lines : List ℤ) (j : ℕ) : Type 0 where
-  pub curve-there : valueOn board j + curveLength (breakpointsAt image (valueOn board j)) ≤ length image
-  pub few : breakpointsAt image (valueOn board j) ≤ 16
-  pub lines-there : linesOn board j + 17 ≤ 136
-  pub rising : (i : ℕ) → suc i < breakpointsAt image (valueOn board j) → reading (breakpointsOf (curveBytes image (valueOn board j))) i <ℤ reading (breakpointsOf (curveBytes image (valueOn board j))) (suc i)
-  pub line : (i : ℕ) → i ≤ breakpointsAt image (valueOn board j) → reading lines (linesOn board j + i) ≡ atZero (slopesOf (curveBytes image (valueOn board j))) (breakpointsOf (curveBytes image (valueOn board j))) i
+-- what flows through a curve with these bytes at v
+abbrev pub curveCurrent : List ℕ → ℤ → ℤ
+curveCurrent bytes v = current 1 (curve (slopesOf bytes) (breakpointsOf bytes)) (pos 0) v
+
+-- a curve's bytes, whole and within the limits, its breakpoints rising, and its lines in the table from `at` on
+pub record CurveReady (bytes : List ℕ) (lines : List ℤ) (at : ℕ) : Type 0 where
+  pub whole : length bytes ≡ curveLength (getD bytes 0 0)
+  pub limits : CurveInLimits (slopesOf bytes) (breakpointsOf bytes)
+  pub rising : Rising (breakpointsOf bytes)
+  pub lines-there : at + 17 ≤ 136
+  pub line : (i : ℕ) → i ≤ getD bytes 0 0 → reading lines (at + i) ≡ atZero (slopesOf bytes) (breakpointsOf bytes) i
+
+-- a diode's curve lies in the image and is ready
+pub record DiodeReady (image board : List ℕ) (lines : List ℤ) (j : ℕ) : Type 0 where
+  pub there : valueOn board j + curveLength (breakpointsAt image (valueOn board j)) ≤ length image
+  pub ready : CurveReady (curveBytes image (valueOn board j)) lines (linesOn board j)
 
 -- what the functions over a board ask: a network within document 01's limits, and every diode's curve with its lines
 pub record Ready (image board : List ℕ) (lines : List ℤ) : Type 0 where
   pub limits : InLimits (networkOn image board)
-  pub diode : (j : ℕ) → j < countOn board → kindOn board j ≡ diodeKind → DiodeOn image board lines j
+  pub diode : (j : ℕ) → j < countOn board → kindOn board j ≡ diodeKind → DiodeReady image board lines j
 
 -- .. of voltages, and of stored currents
 abbrev pub Ranged : List ℕ → List ℤ → Type 0
@@ -77,3 +88,29 @@ Ranged board volts = (i : ℕ) → i ≤ nodesOn board → InRange (reading volt
 
 abbrev pub Kept : List ℕ → List ℤ → Type 0
 Kept board stored = (j : ℕ) → j < countOn board → Within storedLimit (reading stored j)
+
+-- all that a current is made of
+pub record Evaluable (image board : List ℕ) (lines stored volts : List ℤ) : Type 0 where
+  pub ready : Ready image board lines
+  pub kept : Kept board stored
+  pub ranged : Ranged board volts
+
+-- element j ends at nodes that are there, in range
+pub record Ends (board : List ℕ) (volts : List ℤ) (j : ℕ) : Type 0 where
+  pub element : j < 32
+  pub p-there : pOn board j < 16
+  pub q-there : qOn board j < 16
+  pub p-range : InRange (reading volts (pOn board j))
+  pub q-range : InRange (reading volts (qOn board j))
+
+-- the voltage of element j
+abbrev pub acrossOn : List ℕ → List ℤ → ℕ → ℤ
+acrossOn board volts j = reading volts (pOn board j) -ℤ reading volts (qOn board j)
+
+-- its current
+abbrev pub flowOn : List ℕ → List ℕ → List ℤ → List ℤ → ℕ → ℤ
+flowOn image board stored volts j = current 1 (branchOn image board j .law) (reading stored j) (acrossOn board volts j)
+
+-- which end of element j node i is
+abbrev pub endAt : List ℕ → ℕ → ℕ → End
+endAt board j i = pick (eqb i (pOn board j)) (eqb i (qOn board j)) P Q Neither

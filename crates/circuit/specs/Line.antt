@@ -2,11 +2,15 @@
 -- Assumes nothing.
 use mathlib.Core.Bool.{cond}
 use mathlib.Core.List.{List, [], _∷_}
-use Prim.Native.Nat.{ℕ, zero, suc}
+use Prim.Native.Nat.{ℕ, zero, suc, _<_}
 use lib.IntN.{ℤ, pos, _+ℤ_, _-ℤ_, _*ℤ_}
-use lib.ListN.{getD}
-use lib.Signed.{leZ}
+use lib.ListN.{length, getD}
+use lib.Signed.{_<ℤ_, leZ}
 use Rattle.network.specs.Network.{reading}
+
+-- breakpoints rise strictly
+abbrev pub Rising : List ℤ → Type 0
+Rising breakpoints = (i : ℕ) → suc i < length breakpoints → reading breakpoints i <ℤ reading breakpoints (suc i)
 
 -- the stretch that v lies in: how many breakpoints from the left on are at or below it
 unfoldable pub stretchOf : List ℤ → ℤ → ℕ

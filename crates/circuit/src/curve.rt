@@ -4,10 +4,12 @@ use units::signed;
 ghost use mathlib.Core.Path.{_≡_};
 ghost use Prim.Native.Nat.{ℕ, _+_, _*_, _≤_, _<_};
 ghost use lib.ListN.{length, getD};
-ghost use lib.IntN.{ℤ, pos};
-ghost use Rattle.network.specs.Network.{Law, current};
+ghost use lib.IntN.{ℤ};
+ghost use Rattle.units.specs.Voltage.{Within};
+ghost use Rattle.network.specs.Network.{breakpointLimit};
 ghost use Rattle.image.specs.Curve.{breakpointsAt, curveLength, curveBytes, slopeOf, breakpointOf, slopesOf, breakpointsOf};
 ghost use Rattle.circuit.specs.Line.{stretchOf};
+ghost use Rattle.circuit.specs.Board.{CurveReady, curveCurrent};
 
 fn wide(x: u8) -> usize
     ensures { λ r. ⌜ (r ≡ x) × (r < 256) ⌝ }
@@ -52,4 +54,13 @@ pub fn stretch(curve: &[u8], v: i64) -> usize
         j += 1;
     }
     j
+}
+
+// The current of a curve at v: its line's, on the stretch that v lies in.
+pub fn current(curve: &[u8], lines: &[i64; 136], at: usize, v: i64) -> i64
+    requires { ⌜ CurveReady (now curve) (now lines) at × Within breakpointLimit v ⌝ }
+    ensures { λ r. ⌜ r ≡ curveCurrent (now (curve .entry)) v ⌝ }
+{
+    let j = stretch(curve, v);
+    signed::plus(signed::times(signed::whole(slope(curve, j)), v), lines[at + j])
 }

@@ -85,7 +85,7 @@ curve-small k ss bs x v =
     (omega (arith, ap (λ (n : ℕ). S * n) (abs-law v), sub-law (f (pos 0)) (f (pos 0))))
     (omega (arith, ap (λ (n : ℕ). S * n) (abs-law v), sub-law (f (pos 0)) (f (pos 0))))
 
-current-small : (l : Law) (x v : ℤ) → LawInLimits l → Within breakpointLimit v → Within storedLimit x → natAbs (current 1 l x v) ≤ currentBound
+pub current-small : (l : Law) (x v : ℤ) → LawInLimits l → Within breakpointLimit v → Within storedLimit x → natAbs (current 1 l x v) ≤ currentBound
 unfolding current steepestOf
 current-small (conductance g) x v h near kept = omega (arith, product-fits g v (h .1) near, abs-sub (pos g *ℤ v) (pos 1 *ℤ x), abs-mul (pos 1) x)
 current-small (curve ss bs) x v h near kept =
@@ -170,19 +170,19 @@ module _ (N : Network) (limits : InLimits N) where
         go false true = omega (arith, current-fits j l, abs-neg c)
         go false false = omega arith
 
-    -- the sum after any number of branches, without the leak and with it
-    pub partial-sum-fits : (i j : ℕ) → i ≤ N .nodes → j ≤ N .count → (natAbs (sum (λ (m : ℕ). leaving 1 (N .branch m) (x m) w i) j) < 2 ^ 63) × (natAbs (pos (N .leak) *ℤ w i +ℤ sum (λ (m : ℕ). leaving 1 (N .branch m) (x m) w i) j) < 2 ^ 63)
-    partial-sum-fits i j there l =
+    -- the leak's current and the sum of any number of branches, which a loop adds up one by one
+    pub partial-sum-small : (i j : ℕ) → i ≤ N .nodes → j ≤ N .count → natAbs (pos (N .leak) *ℤ w i +ℤ sum (λ (m : ℕ). leaving 1 (N .branch m) (x m) w i) j) ≤ leakLimit * voltageLimit + j * currentBound
+    partial-sum-small i j there l =
         let f : ℕ → ℤ = λ m. leaving 1 (N .branch m) (x m) w i in
         let m : N .leak * natAbs (w i) ≤ leakLimit * voltageLimit = mul-le-mul (limits .leak-small) (range i there) in
-        let c : j ≤ branchLimit = omega (arith, limits .few-branches) in
-        let s : j * currentBound ≤ branchLimit * currentBound = mul-le-mul c (le-refl currentBound) in
-        let b = sum-abs f currentBound j (λ n k. leaving-fits i n (omega arith)) in
-        (omega arith, omega (arith, abs-add (pos (N .leak) *ℤ w i) (sum f j), abs-mul (pos (N .leak)) (w i)))
+        omega (arith, abs-add (pos (N .leak) *ℤ w i) (sum f j), abs-mul (pos (N .leak)) (w i), sum-abs f currentBound j (λ n k. leaving-fits i n (omega arith)))
+
+    pub partial-sum-fits : (i j : ℕ) → i ≤ N .nodes → j ≤ N .count → natAbs (pos (N .leak) *ℤ w i +ℤ sum (λ (m : ℕ). leaving 1 (N .branch m) (x m) w i) j) < 2 ^ 63
+    partial-sum-fits i j there l = omega (arith, partial-sum-small i j there l, limits .few-branches)
 
     pub net-fits : (i : ℕ) → i ≤ N .nodes → natAbs (net 1 N x w i) < 2 ^ 63
     unfolding net
-    net-fits i there = partial-sum-fits i (N .count) there (le-refl (N .count)) .1
+    net-fits i there = partial-sum-fits i (N .count) there (le-refl (N .count))
 
     pub next-fits : (j : ℕ) → j < N .count → natAbs (next N x w j) ≤ 2 ^ 58
     unfolding next

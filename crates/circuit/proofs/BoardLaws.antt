@@ -1,0 +1,116 @@
+-- What a board that is ready says of its elements. Assumes nothing.
+use mathlib.Core.Path.{_≡_, refl, sym, ap}
+use mathlib.Core.Bool.{Bool, true, false}
+use mathlib.Core.List.{List}
+use Prim.Native.Nat.{ℕ, _≤_, _<_}
+use native.Mathlib.Omega.{arith}
+use lib.Dec.{eqb}
+use lib.IntN.{ℤ, pos, negℤ, natAbs, _*ℤ_, _-ℤ_}
+use borrow.Author.Tests.{eq-eqb, ne-eqb}
+use Rattle.units.specs.Voltage.{Within}
+use Rattle.units.proofs.Integers.{scale-one}
+use Rattle.network.specs.Network.{conductance, pick, reading, current, leaving, conductanceLimit, breakpointLimit}
+use Rattle.network.proofs.Ranges.{currentBound, difference-fits, current-fits}
+use Rattle.image.specs.Curve.{curveBytes}
+use Rattle.image.specs.Circuit.{diodeKind}
+use Rattle.circuit.specs.declared.branch.End.{End}
+use Rattle.circuit.specs.declared.branch.End.the-variants.{P, Q, Neither}
+use Rattle.circuit.specs.Board.{nodesOn, countOn, kindOn, pOn, qOn, valueOn, branchOn, networkOn, Ready, Ranged, Evaluable, Ends, acrossOn, flowOn, endAt, curveCurrent}
+
+-- ---- which end a node is, and what a branch has there
+
+-- the three are told apart
+code : End → ℕ
+code P = 0
+code Q = 1
+code Neither = 2
+
+module _ {ℓ} {A : Type ℓ} (a b c : A) where
+  pub end-p : (s t : Bool) → P ≡ pick s t P Q Neither → pick s t a b c ≡ a
+  unfolding code
+  end-p true t e = refl
+  end-p false true e = absurd (omega (arith, ap code e))
+  end-p false false e = absurd (omega (arith, ap code e))
+
+  pub end-q : (s t : Bool) → Q ≡ pick s t P Q Neither → pick s t a b c ≡ b
+  unfolding code
+  end-q true t e = absurd (omega (arith, ap code e))
+  end-q false true e = refl
+  end-q false false e = absurd (omega (arith, ap code e))
+
+  pub end-neither : (s t : Bool) → Neither ≡ pick s t P Q Neither → pick s t a b c ≡ c
+  unfolding code
+  end-neither true t e = absurd (omega (arith, ap code e))
+  end-neither false true e = absurd (omega (arith, ap code e))
+  end-neither false false e = refl
+
+-- ---- element j
+
+module _ (image board : List ℕ) (j : ℕ) where
+  -- of a diode, and of any other
+  pub diode-current : kindOn board j ≡ diodeKind → (x v : ℤ) → curveCurrent (curveBytes image (valueOn board j)) v ≡ current 1 (branchOn image board j .law) x v
+  unfolding branchOn current
+  diode-current e x v = rw (eq-eqb (kindOn board j) diodeKind e)
+
+  pub conductance-law : (kindOn board j ≡ diodeKind → ⊥) → branchOn image board j .law ≡ conductance (valueOn board j)
+  unfolding branchOn
+  conductance-law n = rw (ne-eqb (kindOn board j) diodeKind n)
+
+  pub conductance-current : (kindOn board j ≡ diodeKind → ⊥) → (x v : ℤ) → pos (valueOn board j) *ℤ v -ℤ x ≡ current 1 (branchOn image board j .law) x v
+  unfolding current
+  conductance-current n x v = rw (conductance-law n, scale-one x)
+
+module _ (image board : List ℕ) (lines : List ℤ) (ready : Ready image board lines) where
+  pub few-nodes : nodesOn board ≤ 15
+  few-nodes = ready .limits .few-nodes
+
+  pub few-elements : countOn board ≤ 32
+  few-elements = ready .limits .few-branches
+
+  module _ (j : ℕ) (there : j < countOn board) where
+    pub conductance-fits : (kindOn board j ≡ diodeKind → ⊥) → valueOn board j ≤ conductanceLimit
+    conductance-fits n = (rw (conductance-law image board j n) at (ready .limits .laws j there)) .1
+
+    pub p-node : pOn board j ≤ nodesOn board
+    unfolding branchOn
+    p-node = ready .limits .wired .p-there j there
+
+    pub q-node : qOn board j ≤ nodesOn board
+    unfolding branchOn
+    q-node = ready .limits .wired .q-there j there
+
+    pub ends : (volts : List ℤ) → Ranged board volts → Ends board volts j
+    ends volts ranged = record {
+      element = omega (arith, few-elements);
+      p-there = omega (arith, few-nodes, p-node);
+      q-there = omega (arith, few-nodes, q-node);
+      p-range = ranged (pOn board j) p-node;
+      q-range = ranged (qOn board j) q-node;
+    }
+
+    pub across-fits : (volts : List ℤ) → Ranged board volts → Within breakpointLimit (acrossOn board volts j)
+    across-fits volts ranged = difference-fits (reading volts (pOn board j)) (reading volts (qOn board j)) (ranged (pOn board j) p-node) (ranged (qOn board j) q-node)
+
+-- ---- at given voltages and stored currents
+
+module _ (image board : List ℕ) (lines stored volts : List ℤ) (given : Evaluable image board lines stored volts) where
+  pub flow-fits : (j : ℕ) → j < countOn board → natAbs (flowOn image board stored volts j) ≤ currentBound
+  unfolding branchOn
+  flow-fits j there = current-fits (networkOn image board) (given .ready .limits) (reading stored) (reading volts) (given .kept) (given .ranged) j there
+
+-- what leaves node i by element j, by the end that it is
+module _ (image board : List ℕ) (stored volts : List ℤ) (j i : ℕ) where
+  abbrev c : ℤ
+  c = flowOn image board stored volts j
+
+  pub leaving-p : P ≡ endAt board j i → flowOn image board stored volts j ≡ leaving 1 (branchOn image board j) (reading stored j) (reading volts) i
+  unfolding leaving branchOn
+  leaving-p e = sym (end-p c (negℤ c) (pos 0) (eqb i (pOn board j)) (eqb i (qOn board j)) e)
+
+  pub leaving-q : Q ≡ endAt board j i → negℤ (flowOn image board stored volts j) ≡ leaving 1 (branchOn image board j) (reading stored j) (reading volts) i
+  unfolding leaving branchOn
+  leaving-q e = sym (end-q c (negℤ c) (pos 0) (eqb i (pOn board j)) (eqb i (qOn board j)) e)
+
+  pub leaving-neither : Neither ≡ endAt board j i → pos 0 ≡ leaving 1 (branchOn image board j) (reading stored j) (reading volts) i
+  unfolding leaving branchOn
+  leaving-neither e = sym (end-neither c (negℤ c) (pos 0) (eqb i (pOn board j)) (eqb i (qOn board j)) e)
