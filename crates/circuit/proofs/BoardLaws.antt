@@ -2,20 +2,23 @@
 use mathlib.Core.Path.{_≡_, refl, sym, ap}
 use mathlib.Core.Bool.{Bool, true, false}
 use mathlib.Core.List.{List}
-use Prim.Native.Nat.{ℕ, _≤_, _<_}
+use Prim.Native.Nat.{ℕ, _+_, _*_, _^_, _≤_, _<_}
+use native.Mathlib.Nat.{mul-le-mul}
 use native.Mathlib.Omega.{arith}
 use lib.Dec.{eqb}
-use lib.IntN.{ℤ, pos, negℤ, natAbs, _*ℤ_, _-ℤ_}
+use lib.IntN.{ℤ, pos, negℤ, natAbs, _+ℤ_, _*ℤ_, _-ℤ_, +ℤ-idr, +ℤ-assoc}
 use borrow.Author.Tests.{eq-eqb, ne-eqb}
-use Rattle.units.specs.Voltage.{Within}
+use Rattle.units.specs.Integer.{sum}
+use Rattle.units.specs.Voltage.{Within, voltageLimit}
 use Rattle.units.proofs.Integers.{scale-one}
-use Rattle.network.specs.Network.{conductance, pick, reading, current, leaving, conductanceLimit, breakpointLimit}
-use Rattle.network.proofs.Ranges.{currentBound, difference-fits, current-fits}
+use Rattle.units.proofs.Sizes.{sum-more}
+use Rattle.network.specs.Network.{conductance, pick, reading, current, leaving, net, conductanceLimit, breakpointLimit, leakLimit}
+use Rattle.network.proofs.Ranges.{currentBound, difference-fits, current-fits, leaving-fits, partial-sum-small}
 use Rattle.image.specs.Curve.{curveBytes}
 use Rattle.image.specs.Circuit.{diodeKind}
 use Rattle.circuit.specs.declared.branch.End.{End}
 use Rattle.circuit.specs.declared.branch.End.the-variants.{P, Q, Neither}
-use Rattle.circuit.specs.Board.{nodesOn, countOn, kindOn, pOn, qOn, valueOn, branchOn, networkOn, Ready, Ranged, Evaluable, Ends, acrossOn, flowOn, endAt, curveCurrent}
+use Rattle.circuit.specs.Board.{leakOn, nodesOn, countOn, kindOn, pOn, qOn, valueOn, branchOn, networkOn, Ready, Ranged, Evaluable, Ends, acrossOn, flowOn, endAt, curveCurrent}
 
 -- ---- which end a node is, and what a branch has there
 
@@ -114,3 +117,39 @@ module _ (image board : List ℕ) (stored volts : List ℤ) (j i : ℕ) where
   pub leaving-neither : Neither ≡ endAt board j i → pos 0 ≡ leaving 1 (branchOn image board j) (reading stored j) (reading volts) i
   unfolding leaving branchOn
   leaving-neither e = sym (end-neither c (negℤ c) (pos 0) (eqb i (pOn board j)) (eqb i (qOn board j)) e)
+
+-- ---- net current, as a loop over the elements adds it up
+
+-- the leak's current and those of the first n elements
+unfoldable pub netTo : (image board : List ℕ) (stored volts : List ℤ) (i n : ℕ) → ℤ
+netTo image board stored volts i n = pos (leakOn board) *ℤ reading volts i +ℤ sum (λ (j : ℕ). leaving 1 (branchOn image board j) (reading stored j) (reading volts) i) n
+
+module _ (image board : List ℕ) (stored volts : List ℤ) (i : ℕ) where
+  pub net-none : netTo image board stored volts i 0 ≡ pos (leakOn board) *ℤ reading volts i
+  unfolding netTo sum
+  net-none = +ℤ-idr _
+
+  pub net-more : (n : ℕ) → netTo image board stored volts i (n + 1) ≡ netTo image board stored volts i n +ℤ leaving 1 (branchOn image board n) (reading stored n) (reading volts) i
+  unfolding netTo
+  net-more n = rw (sum-more (λ (j : ℕ). leaving 1 (branchOn image board j) (reading stored j) (reading volts) i) n, +ℤ-assoc)
+
+  pub net-all : netTo image board stored volts i (countOn board) ≡ net 1 (networkOn image board) (reading stored) (reading volts) i
+  unfolding netTo net
+  net-all = refl
+
+module _ (image board : List ℕ) (lines stored volts : List ℤ) (given : Evaluable image board lines stored volts) (i : ℕ) (there : i ≤ nodesOn board) where
+  pub leak-fits : leakOn board * natAbs (reading volts i) ≤ leakLimit * voltageLimit
+  leak-fits = mul-le-mul (given .ready .limits .leak-small) (given .ranged i there)
+
+  -- one more element still fits
+  pub net-fits-more : (n : ℕ) → n < countOn board → natAbs (netTo image board stored volts i n) + natAbs (leaving 1 (branchOn image board n) (reading stored n) (reading volts) i) < 2 ^ 63
+  unfolding netTo
+  net-fits-more n l =
+      let N = networkOn image board in
+      let limits = given .ready .limits in
+      omega (
+        arith,
+        few-elements image board lines (given .ready),
+        partial-sum-small N limits (reading stored) (reading volts) (given .kept) (given .ranged) i n there (omega arith),
+        leaving-fits N limits (reading stored) (reading volts) (given .kept) (given .ranged) i n l,
+      )

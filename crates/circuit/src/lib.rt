@@ -3,3 +3,4 @@
 pub mod board;
 pub mod branch;
 mod curve;
+pub mod node;
