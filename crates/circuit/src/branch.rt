@@ -6,7 +6,7 @@ ghost use mathlib.Core.Path.{_≡_};
 ghost use Prim.Native.Nat.{ℕ, _<_};
 ghost use lib.IntN.{ℤ};
 ghost use Rattle.units.specs.Voltage.{Within};
-ghost use Rattle.network.specs.Network.{current, leaving, reading, breakpointLimit, storedLimit};
+ghost use Rattle.network.specs.Network.{current, leaving, conductanceOf, steepestOf, reading, breakpointLimit, storedLimit};
 ghost use Rattle.circuit.specs.Board.{countOn, branchOn, Ready, Evaluable, Ends, acrossOn, flowOn, endAt};
 
 // Which end of an element a node is.
@@ -70,4 +70,27 @@ pub fn leaving(image: &[u8], board: &[u64; 164], lines: &[i64; 136], stored: &[i
         End::Q => signed::minus(0, flow(image, board, lines, stored, volts, j)),
         End::Neither => 0,
     }
+}
+
+// The conductance of element j: none for a diode.
+pub fn conductance(image: &[u8], board: &[u64; 164], j: usize) -> u64
+    requires { ⌜ j < 32 ⌝ }
+    ensures { λ r. ⌜ r ≡ conductanceOf (branchOn (now (image .entry)) (now (board .entry)) j .law) ⌝ }
+{
+    if board::kind(board, j) == 4 {
+        return 0;
+    }
+    board::value(board, j)
+}
+
+// The steepest slope of element j.
+pub fn steepest(image: &[u8], board: &[u64; 164], lines: &[i64; 136], j: usize) -> u64
+    requires { ⌜ Ready (now image) (now board) (now lines) × (j < countOn (now board)) ⌝ }
+    ensures { λ r. ⌜ r ≡ steepestOf (branchOn (now (image .entry)) (now (board .entry)) j .law) ⌝ }
+{
+    let value = board::value(board, j);
+    if board::kind(board, j) == 4 {
+        return curve::steepest(curve::bytes_at(image, value as usize));
+    }
+    value
 }

@@ -2,11 +2,11 @@
 use units::bytes;
 use units::signed;
 ghost use mathlib.Core.Path.{_≡_};
-ghost use Prim.Native.Nat.{ℕ, _+_, _*_, _≤_, _<_};
+ghost use Prim.Native.Nat.{ℕ, _+_, _*_, _≤_, _<_, max};
 ghost use lib.ListN.{length, getD};
 ghost use lib.IntN.{ℤ};
 ghost use Rattle.units.specs.Voltage.{Within};
-ghost use Rattle.network.specs.Network.{breakpointLimit};
+ghost use Rattle.network.specs.Network.{greatest, breakpointLimit};
 ghost use Rattle.image.specs.Curve.{breakpointsAt, curveLength, curveBytes, slopeOf, breakpointOf, slopesOf, breakpointsOf};
 ghost use Rattle.circuit.specs.Line.{stretchOf};
 ghost use Rattle.circuit.specs.Board.{CurveReady, curveCurrent};
@@ -63,4 +63,24 @@ pub fn current(curve: &[u8], lines: &[i64; 136], at: usize, v: i64) -> i64
 {
     let j = stretch(curve, v);
     signed::plus(signed::times(signed::whole(slope(curve, j)), v), lines[at + j])
+}
+
+fn larger(a: u64, b: u64) -> u64
+    ensures { λ r. ⌜ r ≡ max a b ⌝ }
+{
+    if a < b { b } else { a }
+}
+
+// The greatest slope of a curve.
+pub fn steepest(curve: &[u8]) -> u64
+    requires { ⌜ length (now curve) ≡ curveLength (getD (now curve) 0 0) ⌝ }
+    ensures { λ r. ⌜ r ≡ greatest (slopesOf (now (curve .entry))) ⌝ }
+{
+    let mut i = 1 + wide(curve[0]);
+    let mut most: u64 = 0;
+    while 0 < i {
+        i -= 1;
+        most = larger(slope(curve, i), most);
+    }
+    most
 }
