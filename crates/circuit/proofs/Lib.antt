@@ -1,3 +1,4 @@
+pub mod AdvanceLaws
 pub mod BoardLaws
 pub mod CurveLaws
 pub mod Lines

@@ -1,2 +1,3 @@
+pub mod Advance
 pub mod Board
 pub mod Line

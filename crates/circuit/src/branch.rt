@@ -43,7 +43,7 @@ fn carried(image: &[u8], board: &[u64; 164], lines: &[i64; 136], j: usize, x: i6
 }
 
 // The voltage of element j: that of its end p less that of its end q.
-fn across(board: &[u64; 164], volts: &[i64; 16], j: usize) -> i64
+pub fn across(board: &[u64; 164], volts: &[i64; 16], j: usize) -> i64
     requires { ⌜ Ends (now board) (now volts) j ⌝ }
     ensures { λ r. ⌜ r ≡ acrossOn (now (board .entry)) (now (volts .entry)) j ⌝ }
 {

@@ -1,5 +1,6 @@
 // The code of network's definitions over an accepted image: currents, net current, held conductance,
 // steepest sum, the advance of stored currents, and the least bound B.
+pub mod advance;
 pub mod board;
 pub mod branch;
 mod curve;
