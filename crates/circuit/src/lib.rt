@@ -2,6 +2,7 @@
 // steepest sum, the advance of stored currents, and the least bound B.
 pub mod advance;
 pub mod board;
+pub mod bound;
 pub mod branch;
 mod curve;
 pub mod node;
