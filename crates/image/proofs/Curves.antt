@@ -13,7 +13,8 @@ use borrow.Author.Tests.{eqb-true}
 use Rattle.network.specs.Network.{breakpointCountLimit}
 use Rattle.image.specs.Tests.{between, every}
 use Rattle.image.specs.Curve.{breakpointsAt, curveLength, curveBytes}
-use Rattle.image.specs.Format.{startFrom, splits, CurveThere}
+use Rattle.image.specs.Format.{startFrom, splits}
+use Rattle.image.specs.Asked.{CurveThere}
 use Rattle.image.proofs.Every.{both, between-says, every-says, every-fails}
 
 pub start-none : (image : List ℕ) (first : ℕ) → first ≡ startFrom image first 0

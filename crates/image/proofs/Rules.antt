@@ -15,7 +15,9 @@ use Rattle.network.specs.Network.{nodeLimit, branchLimit, conductanceLimit, bre
 use Rattle.image.specs.Tests.{between, every}
 use Rattle.image.specs.Curve.{curveBytes, slopeOf, breakpointOf}
 use Rattle.image.specs.Circuit.{resistorKind, diodeKind}
-use Rattle.image.specs.Format.{trailerSize, elementSize, curveLimit, lowestRate, highestRate, version1, trailerFits, sizesFit, splits, firstCurve, startFrom, slopeFits, breakpointFits, rises, curveFits, curvesFit, elementFits, conductanceFits, CurveThere}
+use Rattle.image.specs.Format.{trailerSize, elementSize, curveLimit, lowestRate, highestRate, version1, trailerFits, sizesFit, splits, firstCurve, startFrom, slopeFits, breakpointFits, rises, curveFits, curvesFit, elementFits, conductanceFits}
+use Rattle.image.specs.Asked.{CurveThere}
+use Rattle.image.specs.Sound.{CurveSound}
 use Rattle.image.specs.declared.element.Element.{Element}
 use Rattle.image.specs.declared.trailer.Trailer.{Trailer}
 use Rattle.image.proofs.Every.{both, between-says, every-says}
@@ -80,12 +82,7 @@ sizes-say image t e =
     }
 
 -- rule 4
-pub record CurveSays (bytes : List ℕ) : Type 0 where
-  pub slope : (j : ℕ) → j < getD bytes 0 0 + 1 → slopeOf bytes j ≤ conductanceLimit
-  pub breakpoint : (j : ℕ) → j < getD bytes 0 0 → natAbs (breakpointOf bytes j) ≤ breakpointLimit
-  pub rising : (j : ℕ) → j + 1 < getD bytes 0 0 → ltZ (breakpointOf bytes j) (breakpointOf bytes (j + 1)) ≡ true
-
-pub curve-says : (bytes : List ℕ) → curveFits bytes ≡ true → CurveSays bytes
+pub curve-says : (bytes : List ℕ) → curveFits bytes ≡ true → CurveSound bytes
 unfolding curveFits
 curve-says bytes e =
     let m = getD bytes 0 0 in
@@ -96,10 +93,10 @@ curve-says bytes e =
     record {
       slope = λ j h. leb-true (slopeOf bytes j) conductanceLimit (every-says (slopeFits bytes) (m + 1) j (c .1) h);
       breakpoint = λ j h. leb-true (natAbs (breakpointOf bytes j)) breakpointLimit (every-says (breakpointFits bytes) m j (b .1) h);
-      rising = λ j h. every-says (rises bytes) (m - 1) j (a .1) (omega arith);
+      rising = λ j h. record { lt = rw (every-says (rises bytes) (m - 1) j (a .1) (omega arith)) tt };
     }
 
-pub curves-say : (image : List ℕ) (first count : ℕ) → curvesFit image first count ≡ true → (k : ℕ) → k < count → CurveSays (curveBytes image (startFrom image first k))
+pub curves-say : (image : List ℕ) (first count : ℕ) → curvesFit image first count ≡ true → (k : ℕ) → k < count → CurveSound (curveBytes image (startFrom image first k))
 unfolding curvesFit
 curves-say image first count e k h = curve-says _ (every-says (λ (k : ℕ). curveFits (curveBytes image (startFrom image first k))) count k e h)
 

@@ -1,10 +1,9 @@
 -- The image, document 01: bytes to a reading, which is a circuit's parts or a number from 1 to 6. Every rule is a test of any bytes
 -- whatever (past the end they read as 0), and the first that fails gives its number. Limits that a circuit shares with the network
 -- are network's. Assumes nothing.
-use mathlib.Core.Path.{_≡_}
 use mathlib.Core.Bool.{Bool, _&&_, _||_, not, cond}
 use mathlib.Core.List.{List}
-use Prim.Native.Nat.{ℕ, zero, suc, _+_, _*_, _-_, _^_, _≤_, _<_}
+use Prim.Native.Nat.{ℕ, zero, suc, _+_, _*_, _-_}
 use lib.Dec.{eqb, leb, ltb}
 use lib.IntN.{ℤ}
 use lib.ListN.{length, getD}
@@ -162,28 +161,6 @@ conductanceFits kind g = eqb kind diodeKind || between 1 conductanceLimit g
 
 unfoldable pub conductancesFit : (image : List ℕ) (count rate : ℕ) → Bool
 conductancesFit image count rate = every (λ (j : ℕ). conductanceFits (elementAt image j .kind) (conductanceAt image rate j)) count
-
--- ---- what the code asks on the way
-
--- a conductance can be computed
-pub record Valued (kind value rate : ℕ) : Type 0 where
-  pub small : value < 2 ^ 32
-  pub slow : rate ≤ highestRate
-  pub sampled : 1 ≤ rate
-  pub some : (kind ≡ diodeKind → ⊥) → 1 ≤ value
-
-pub record Measured (image : List ℕ) (n rate : ℕ) : Type 0 where
-  pub few : n ≤ branchLimit
-  pub there : elementSize * n ≤ length image
-  pub slow : rate ≤ highestRate
-  pub sampled : 1 ≤ rate
-  pub some : (j : ℕ) → j < n → (elementAt image j .kind ≡ diodeKind → ⊥) → 1 ≤ elementAt image j .value
-
--- a whole curve stands at a place
-pub record CurveThere (image : List ℕ) (at : ℕ) : Type 0 where
-  pub some : 1 ≤ breakpointsAt image at
-  pub few : breakpointsAt image at ≤ breakpointCountLimit
-  pub whole : at + curveLength (breakpointsAt image at) ≤ length image
 
 -- ---- the reading
 

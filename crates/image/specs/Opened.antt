@@ -2,18 +2,17 @@
 use mathlib.Core.Path.{_≡_}
 use mathlib.Core.Bool.{cond}
 use mathlib.Core.List.{List}
-use Prim.Native.Nat.{ℕ, zero, suc, _*_, _≤_, _<_}
+use Prim.Native.Nat.{ℕ, zero, suc}
 use lib.Dec.{ltb}
-use lib.ListN.{length, replicate}
+use lib.ListN.{replicate}
 use Rattle.network.specs.Network.{branchLimit}
 use Rattle.image.specs.Curve.{tabulate}
-use Rattle.image.specs.Format.{Parts, Reading, accepted, refused, trailerOf, elementAt, curveStart, startFrom, firstCurve, conductanceAt, elementSize, curveLimit, readingOf, partsOf}
+use Rattle.image.specs.Format.{Parts, Reading, accepted, refused, trailerOf, elementAt, curveStart, conductanceAt, curveLimit, readingOf, partsOf}
 use Rattle.image.specs.Meaning.{leakOf}
 use Rattle.image.specs.declared.circuit.Circuit.{Circuit}
 use Rattle.image.specs.declared.reader.Answer.{Answer}
 use Rattle.image.specs.declared.reader.Answer.the-variants.{Accepted, Length, Trailer, Sizes, Curves, Elements, Conductances}
 use Rattle.image.specs.declared.reader.Opened.{Opened}
-use Rattle.image.specs.declared.trailer.Trailer as trailer
 
 -- document 01's number of an answer
 abbrev pub numberOf : Answer → ℕ
@@ -51,15 +50,6 @@ circuitIn image =
       curve = padded branchLimit (λ (j : ℕ). elementAt image j .curve) (t .elements);
       start = padded curveLimit (curveStart image) (t .curves);
     }
-
--- what the code has in hand when it makes that circuit: an accepted image's trailer, and its conductances
-pub record Laid (image : List ℕ) (t : trailer.Trailer) (g : List ℕ) : Type 0 where
-  pub is : t ≡ trailerOf image
-  pub few : t .elements ≤ branchLimit
-  pub room : elementSize * t .elements ≤ length image
-  pub few-curves : t .curves ≤ curveLimit
-  pub starts : (k : ℕ) → k < t .curves → startFrom image (firstCurve t) k < length image
-  pub conductances : g ≡ padded branchLimit (conductanceAt image (t .rate)) (t .elements)
 
 -- the circuit beside a refusal: zeros
 unfoldable pub noCircuit : Circuit

@@ -7,7 +7,8 @@ ghost use Prim.Native.Nat.{ℕ, _+_, _*_, _^_, _≤_, _<_};
 ghost use lib.ListN.{length};
 ghost use Rattle.image.specs.Tests.{every};
 ghost use Rattle.image.specs.Conductance.{resistorConductance, capacitorConductance, inductorConductance, conductanceBy};
-ghost use Rattle.image.specs.Format.{elementAt, conductanceAt, conductanceFits, Valued, Measured};
+ghost use Rattle.image.specs.Format.{elementAt, conductanceAt, conductanceFits};
+ghost use Rattle.image.specs.Asked.{Valued, Measured};
 ghost use Rattle.image.specs.Opened.{padded};
 
 fn resistor(ohms: u64) -> u64

@@ -9,7 +9,8 @@ ghost use Prim.Native.Nat.{ℕ, _+_, _*_, _-_, _≤_, _<_};
 ghost use lib.ListN.{length, getD};
 ghost use Rattle.image.specs.Tests.{every};
 ghost use Rattle.image.specs.Curve.{curveBytes, curveLength, breakpointsAt, slopeOf, breakpointOf};
-ghost use Rattle.image.specs.Format.{startFrom, splits, slopeFits, breakpointFits, rises, curveFits, curvesFit, CurveThere};
+ghost use Rattle.image.specs.Format.{startFrom, splits, slopeFits, breakpointFits, rises, curveFits, curvesFit};
+ghost use Rattle.image.specs.Asked.{CurveThere};
 ghost use Rattle.image.specs.Opened.{padded};
 
 // How many bytes a curve of m breakpoints has.

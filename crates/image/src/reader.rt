@@ -11,7 +11,8 @@ ghost use mathlib.Core.Bool.{true};
 ghost use Prim.Native.Nat.{ℕ, _+_, _*_, _-_, _≤_, _<_};
 ghost use lib.ListN.{length};
 ghost use Rattle.image.specs.Format.{lengthFits, sizesFit};
-ghost use Rattle.image.specs.Opened.{circuitIn, noCircuit, Laid, Read};
+ghost use Rattle.image.specs.Opened.{circuitIn, noCircuit, Read};
+ghost use Rattle.image.specs.Asked.{Laid};
 ghost use Rattle.image.specs.Meaning.{leakOf};
 
 // Whether an image is accepted, or which rule it breaks.

@@ -5,7 +5,8 @@ use native.Mathlib.Omega.{arith}
 use lib.ListN.{length, getD}
 use Rattle.image.specs.Tests.{between, every}
 use Rattle.image.proofs.Every.{every-none, every-more, every-fails, every-says}
-use Rattle.image.specs.Format.{elementAt, conductanceAt, Valued}
+use Rattle.image.specs.Format.{elementAt, conductanceAt}
+use Rattle.image.specs.Asked.{Valued}
 use Rattle.image.specs.Opened.{padded}
 use Rattle.image.proofs.Tables.{padded-none, padded-more}
 use borrow.Author.Needs.{needs}

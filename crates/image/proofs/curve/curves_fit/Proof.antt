@@ -7,7 +7,8 @@ use denote.Ref.{now}
 use borrow.Author.Tests.{not-true, not-false}
 use Rattle.image.specs.Tests.{every}
 use Rattle.image.specs.Curve.{curveBytes, curveLength, breakpointsAt}
-use Rattle.image.specs.Format.{startFrom, curveFits, curvesFit, CurveThere}
+use Rattle.image.specs.Format.{startFrom, curveFits, curvesFit}
+use Rattle.image.specs.Asked.{CurveThere}
 use Rattle.image.proofs.Every.{every-none, every-more, every-fails}
 use Rattle.image.proofs.Curves.{start-none, start-more, curve-length, curve-head}
 use borrow.Author.Needs.{needs}
