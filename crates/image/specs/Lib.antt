@@ -1,2 +1,9 @@
+pub mod Asked
 pub mod Circuit
+pub mod Conductance
 pub mod Curve
+pub mod Format
+pub mod Meaning
+pub mod Opened
+pub mod Sound
+pub mod Tests

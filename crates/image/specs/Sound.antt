@@ -1,0 +1,47 @@
+-- What later layers may take for granted of an accepted image and the circuit read from it. Assumes nothing.
+use mathlib.Core.Path.{_≡_}
+use mathlib.Core.List.{List}
+use Prim.Native.Nat.{ℕ, _+_, _≤_, _<_}
+use lib.IntN.{natAbs}
+use lib.ListN.{length, getD}
+use lib.Signed.{_<ℤ_}
+use Rattle.network.specs.Network.{nodeLimit, branchLimit, conductanceLimit, breakpointLimit, InLimits}
+use Rattle.image.specs.Curve.{curveBytes, slopeOf, breakpointOf}
+use Rattle.image.specs.Circuit.{resistorKind, diodeKind, networkIn}
+use Rattle.image.specs.Format.{curveLimit, longest, partsOf}
+use Rattle.image.specs.Asked.{CurveThere}
+use Rattle.image.specs.Meaning.{networkOf}
+use Rattle.image.specs.declared.circuit.Circuit.{Circuit}
+
+-- a curve's bytes are within their limits
+pub record CurveSound (bytes : List ℕ) : Type 0 where
+  pub slope : (j : ℕ) → j < getD bytes 0 0 + 1 → slopeOf bytes j ≤ conductanceLimit
+  pub breakpoint : (j : ℕ) → j < getD bytes 0 0 → natAbs (breakpointOf bytes j) ≤ breakpointLimit
+  pub rising : (j : ℕ) → j + 1 < getD bytes 0 0 → breakpointOf bytes j <ℤ breakpointOf bytes (j + 1)
+
+-- where the curve of element j starts
+abbrev pub startOf : Circuit → ℕ → ℕ
+startOf c j = getD (c .start) (getD (c .curve) j 0) 0
+
+pub record Sound (image : List ℕ) (c : Circuit) : Type 0 where
+  pub short : length image ≤ longest
+  pub some-node : 1 ≤ c .nodes
+  pub few-nodes : c .nodes ≤ nodeLimit
+  pub driven-there : c .driven ≤ c .nodes
+  pub some-output : 1 ≤ c .output
+  pub output-there : c .output ≤ c .nodes
+  pub some-element : 1 ≤ c .count
+  pub few-elements : c .count ≤ branchLimit
+  pub kind-low : (j : ℕ) → j < c .count → resistorKind ≤ getD (c .kind) j 0
+  pub kind-high : (j : ℕ) → j < c .count → getD (c .kind) j 0 ≤ diodeKind
+  pub p-there : (j : ℕ) → getD (c .p) j 0 ≤ c .nodes
+  pub q-there : (j : ℕ) → getD (c .q) j 0 ≤ c .nodes
+  pub two-ended : (j : ℕ) → j < c .count → getD (c .p) j 0 ≡ getD (c .q) j 0 → ⊥
+  pub conductance-some : (j : ℕ) → j < c .count → (getD (c .kind) j 0 ≡ diodeKind → ⊥) → 1 ≤ getD (c .conductance) j 0
+  pub conductance-small : (j : ℕ) → getD (c .conductance) j 0 ≤ conductanceLimit
+  pub curve-index : (j : ℕ) → j < c .count → getD (c .kind) j 0 ≡ diodeKind → getD (c .curve) j 0 < curveLimit
+  pub curve-there : (j : ℕ) → j < c .count → getD (c .kind) j 0 ≡ diodeKind → CurveThere image (startOf c j)
+  pub curve-sound : (j : ℕ) → j < c .count → getD (c .kind) j 0 ≡ diodeKind → CurveSound (curveBytes image (startOf c j))
+  pub leak-one : c .leak ≡ 1
+  pub means : networkIn image c ≡ networkOf (partsOf image)
+  pub in-limits : InLimits (networkIn image c)
