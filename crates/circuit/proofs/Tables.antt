@@ -1,5 +1,5 @@
 -- A curve's slopes and breakpoints as lists, place by place. Assumes nothing.
-use mathlib.Core.Path.{_≡_, refl, ap}
+use mathlib.Core.Path.{_≡_, refl}
 use mathlib.Core.List.{List, [], _∷_}
 use Prim.Native.Nat.{ℕ, zero, suc, _<_, _≤_, max}
 use native.Mathlib.Omega.{arith}
@@ -7,19 +7,8 @@ use lib.IntN.{ℤ}
 use lib.ListN.{length, getD, drop}
 use lib.Seq.{drop-cons}
 use Rattle.network.specs.Network.{reading, greatest}
-use Rattle.image.specs.Curve.{tabulate, slopeOf, breakpointOf, slopesOf, breakpointsOf}
-
-module _ {ℓ} {A : Type ℓ} where
-  tabulate-length : (f : ℕ → A) (n : ℕ) → length (tabulate f n) ≡ n
-  unfolding tabulate
-  tabulate-length f zero = refl
-  tabulate-length f (suc n) = ap suc (tabulate-length (λ (j : ℕ). f (suc j)) n)
-
-  tabulate-at : (f : ℕ → A) (n j : ℕ) (d : A) → j < n → getD (tabulate f n) j d ≡ f j
-  unfolding tabulate
-  tabulate-at f zero j d h = absurd (omega arith)
-  tabulate-at f (suc n) zero d h = refl
-  tabulate-at f (suc n) (suc j) d h = tabulate-at (λ (j : ℕ). f (suc j)) n j d (omega arith)
+use Rattle.image.proofs.Tables.{tabulate-length, tabulate-at}
+use Rattle.image.specs.Curve.{slopeOf, breakpointOf, slopesOf, breakpointsOf}
 
 module _ (c : List ℕ) where
   pub slopes-length : length (slopesOf c) ≡ suc (getD c 0 0)

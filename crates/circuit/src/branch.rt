@@ -37,7 +37,7 @@ fn carried(image: &[u8], board: &[u64; 164], lines: &[i64; 136], j: usize, x: i6
 {
     let value = board::value(board, j);
     if board::kind(board, j) == 4 {
-        return curve::current(curve::bytes_at(image, value as usize), lines, board::lines_at(board, j), v);
+        return curve::current(image::curve_at(image, value as usize), lines, board::lines_at(board, j), v);
     }
     signed::minus(signed::times(signed::whole(value), v), x)
 }
@@ -90,7 +90,7 @@ pub fn steepest(image: &[u8], board: &[u64; 164], lines: &[i64; 136], j: usize) 
 {
     let value = board::value(board, j);
     if board::kind(board, j) == 4 {
-        return curve::steepest(curve::bytes_at(image, value as usize));
+        return curve::steepest(image::curve_at(image, value as usize));
     }
     value
 }

@@ -15,19 +15,19 @@ value-requires c κs = search needs
 kind-requires : tie.Need-kind-requires
 kind-requires c κs = search needs
 
-bytes-at-requires : tie.Need-bytes-at-requires
-bytes-at-requires c κs = rw (c .before .before .value .ensures) (diode-here c .there)
+curve-at-requires : tie.Need-curve-at-requires
+curve-at-requires c κs = search needs
 
 steepest-requires : tie.Need-steepest-requires
 steepest-requires c κs =
     let t = c .before in
-    rw (c .bytes-at .ensures, t .before .before .value .ensures) (diode-here t .ready .whole)
+    rw (c .curve-at .ensures, t .before .before .value .ensures) (diode-here t .ready .whole)
 
 returns : tie.Need-returns
 returns c =
     let t = c .before .before in
     let s = t .before .before .before .before in
-    (rw (c .before .bytes-at .ensures, t .before .before .value .ensures) at (c .steepest .ensures)) ∙ diode-steepest (s .args .image .now) (s .args .board .now) (s .args .j) (sym (t .before .kind .ensures) ∙ t .if1 .taken)
+    (rw (c .before .curve-at .ensures, t .before .before .value .ensures) at (c .steepest .ensures)) ∙ diode-steepest (s .args .image .now) (s .args .board .now) (s .args .j) (sym (t .before .kind .ensures) ∙ t .if1 .taken)
 
 returns-2 : tie.Need-returns-2
 returns-2 c =
@@ -37,4 +37,4 @@ returns-2 c =
 pub steepest-spec : {M : Type 1} → statement M
 steepest-spec =
     tie.close
-    (tie.spec value-requires kind-requires bytes-at-requires steepest-requires returns returns-2)
+    (tie.spec value-requires kind-requires curve-at-requires steepest-requires returns returns-2)

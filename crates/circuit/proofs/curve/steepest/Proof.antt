@@ -16,25 +16,22 @@ Inv-loop curve i₀ most₀ i most = (i ≤ suc (getD curve 0 0)) × (most ≡ g
 abbrev μ-loop : tie.MeasureT-loop
 μ-loop curve i₀ most₀ i most = i
 
-shared-slice-read-wide : tie.Need-shared-slice-read-wide Inv-loop μ-loop
-shared-slice-read-wide c = search needs
-
-wide-requires : tie.Need-wide-requires Inv-loop μ-loop
-wide-requires c κs = search needs
+breakpoint-count-requires : tie.Need-breakpoint-count-requires Inv-loop μ-loop
+breakpoint-count-requires c κs = search needs
 
 add-i : tie.Need-add-i Inv-loop μ-loop
 add-i c = search needs
 
 loop-holds : tie.Need-loop-holds Inv-loop μ-loop
 loop-holds c =
-    let e : 1 + c .wide .result ≡ suc (getD (c .before .before .before .args .curve .now) 0 0) = omega (arith, c .wide .ensures .0) in
+    let e : 1 + c .breakpoint-count .result ≡ suc (getD (c .before .before .args .curve .now) 0 0) = omega (arith, c .breakpoint-count .ensures .0) in
     (omega arith, greatest-none _ _ e)
 
 sub-i : tie.Need-sub-i Inv-loop μ-loop
 sub-i c = search needs
 
 slope-requires : tie.Need-slope-requires Inv-loop μ-loop
-slope-requires c κs = let s = c .before .before .before .before .before in omega (arith, s .pre)
+slope-requires c κs = let s = c .before .before .before .before in omega (arith, s .pre)
 
 larger-requires : tie.Need-larger-requires Inv-loop μ-loop
 larger-requires c κs = search needs
@@ -46,7 +43,7 @@ loop-again : tie.Need-loop-again Inv-loop μ-loop
 loop-again c =
     let l = c .before .before .before .loop in
     let t = c .before .before .loop-test .taken in
-    let s = c .before .before .before .before .before .before .before in
+    let s = c .before .before .before .before .before .before in
     let e : suc (l .i - 1) ≡ l .i = omega arith in
     (omega arith, (rw (c .before .slope .ensures, l .inv .1) at (c .larger .ensures)) ∙ (rw e at (greatest-more (s .args .curve .now) (l .i - 1) (omega arith))))
 
@@ -59,8 +56,7 @@ steepest-spec =
     (tie.spec
     Inv-loop
     μ-loop
-    shared-slice-read-wide
-    wide-requires
+    breakpoint-count-requires
     add-i
     loop-holds
     sub-i
