@@ -7,18 +7,18 @@ import struct
 KINDS = {"R": 1, "C": 2, "L": 3, "D": 4}
 
 
-class Case:
-    """One case as its lines leave it. `like` starts from another case's lines."""
-
-    def __init__(self, name):
-        self.name = name
-        self.lines = []
-
-
 def worth(text, names):
-    """A number, or an expression over knobs and counters. A part of 0 becomes 1, as CIRCUITS' knobs at their ends do."""
+    """A number, or an expression over knobs and counters such as 250000(1-t)."""
     text = re.sub(r"(?<=\d)(?=[a-z(])", "*", text)
     return eval(text, {"__builtins__": {}}, names)
+
+
+def counted(words):
+    """The lines that `for COUNTER FIRST LAST LINE` stands for."""
+    counter, first, last, *line = words
+    for count in range(int(first), int(last) + 1):
+        yield [str(worth(word, {counter: count})) if re.search(rf"(?<![a-z]){counter}(?![a-z])", word) else word
+               for word in line]
 
 
 def read(path):
@@ -33,7 +33,7 @@ def read(path):
             lines = list(shared)
             cases[words[1]] = lines
         elif words[0] == "like":
-            lines += [copied for copied in cases[words[1]] if copied not in shared]
+            lines += [copied for copied in cases[words[1]] if copied not in shared and copied[0] != "expect"]
         else:
             lines.append(words)
     return cases
@@ -46,8 +46,8 @@ class Build:
         self.fields = {"rate": 48000, "drives": 1, "out": 1, "nodes": 0}
         self.knobs, self.curves, self.used = {}, {}, []
         self.elements, self.sources = [], []
-        self.samples = 0
-        self.after = []
+        self.samples, self.after = 0, []
+        self.expected = ""
         for words in lines:
             if words[0] == "knob":
                 self.knobs[words[1]] = float(words[2])
@@ -72,25 +72,30 @@ class Build:
         elif name == "drive":
             self.sources.append((int(rest[0]), rest[1], [int(word) for word in rest[2:]]))
         elif name == "for":
-            for count in range(int(rest[1]), int(rest[2]) + 1):
-                self.part(rest[3:], {rest[0]: count})
+            for line in counted(rest):
+                self.line(line)
+        elif name == "quiet":
+            self.sources = []
+        elif name == "expect":
+            self.expected = " ".join(rest)
         elif name in ("patch", "cut", "append", "missing"):
             self.after.append(words)
         elif name[0] in KINDS:
-            self.part(words, {})
+            self.part(words)
         else:
             raise ValueError(" ".join(words))
 
-    def part(self, words, counter):
+    def part(self, words):
         kind = KINDS[words[0][0]]
-        p, q = (worth(word, counter) for word in words[1:3])
+        p, q = int(words[1]), int(words[2])
         curve, value = 0, 0
         if words[3] in self.curves:
             if words[3] not in self.used:
                 self.used.append(words[3])
             curve = self.used.index(words[3])
         else:
-            value = max(1, round(worth(words[3], {**self.knobs, **counter})))
+            # A knob at its end leaves 1 ohm, since a part of 0 is no part.
+            value = max(1, round(worth(words[3], self.knobs)))
         self.fields["nodes"] = max(self.fields["nodes"], p, q)
         self.elements.append(struct.pack("<4BI", kind, p, q, curve, value))
 

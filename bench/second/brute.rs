@@ -4,9 +4,7 @@
 //! definition of the answer says. In the whole range, nodes are lowered by one microvolt while a net current is above zero, sample
 //! after sample with stored currents. Both have their own currents, a curve's as a sum of hinges.
 
-mod block;
-mod image;
-mod sample;
+use crate::{block, image, sample};
 
 /// One element as the reference sees it. `slopes` is empty for all but a diode.
 #[derive(Clone, Default)]
@@ -31,7 +29,7 @@ struct Reference {
 const RATE: u32 = 8_000;
 
 /// A small generator of numbers with a fixed beginning (xorshift, 64 bits).
-struct Dice(u64);
+pub struct Dice(pub u64);
 
 impl Dice {
     /// A whole number from `low` to `high`.
@@ -183,7 +181,7 @@ impl Reference {
 }
 
 /// Samples in a small range against the definition; how many, and how many of them the rail refused.
-fn small_ranges(dice: &mut Dice, rounds: usize) -> (usize, usize) {
+pub fn small_ranges(dice: &mut Dice, rounds: usize) -> (usize, usize) {
     let (mut samples, mut refused) = (0, 0);
     for round in 0..rounds {
         let free = 1 + round % 4;
@@ -206,7 +204,7 @@ fn small_ranges(dice: &mut Dice, rounds: usize) -> (usize, usize) {
 }
 
 /// Blocks in the whole range against lowering by microvolts; how many samples.
-fn whole_range(dice: &mut Dice, rounds: usize) -> usize {
+pub fn whole_range(dice: &mut Dice, rounds: usize) -> usize {
     let mut samples = 0;
     for round in 0..rounds {
         let made = Reference::random(dice, 1 + round % 4, 100);
@@ -230,12 +228,4 @@ fn whole_range(dice: &mut Dice, rounds: usize) -> usize {
         samples += n;
     }
     samples
-}
-
-fn main() {
-    let rounds = std::env::args().nth(1).and_then(|word| word.parse().ok()).unwrap_or(1_000);
-    let mut dice = Dice(0x9E37_79B9_7F4A_7C15);
-    let (samples, refused) = small_ranges(&mut dice, rounds);
-    println!("{samples} samples by definition, {refused} of them refused by the rail");
-    println!("{} samples by microvolts, with state", whole_range(&mut dice, rounds));
 }
