@@ -59,9 +59,12 @@ static void solve(int n, int width, double a[][ROW], double *solution)
     double inverse[MOST_NODES];
     for (int k = 0; k < n; k++) {
         int pivot = k;
+        double most = fabs(a[k][k]);
         for (int i = k + 1; i < n; i++)
-            if (fabs(a[i][k]) > fabs(a[pivot][k]))
+            if (fabs(a[i][k]) > most) {
+                most = fabs(a[i][k]);
                 pivot = i;
+            }
         if (pivot != k) {
             double kept[ROW];
             memcpy(kept, a[k], sizeof kept);
@@ -78,11 +81,12 @@ static void solve(int n, int width, double a[][ROW], double *solution)
                     a[i][j + lane] -= factor * a[k][j + lane];
         }
     }
+    for (int i = 0; i < n; i++)
+        solution[i] = a[i][n];
     for (int k = n - 1; k >= 0; k--) {
-        double sum = a[k][n];
-        for (int j = k + 1; j < n; j++)
-            sum -= a[k][j] * solution[j];
-        solution[k] = sum * inverse[k];
+        solution[k] *= inverse[k];
+        for (int i = 0; i < k; i++)
+            solution[i] -= a[i][k] * solution[k];
     }
 }
 
