@@ -1,7 +1,8 @@
 //! A block: an image, a state, a number of samples and their drives in; a number, a count, outputs and the state after it out.
 
 use crate::image::{self, signed, Circuit, Kind, MOST_ELEMENTS};
-use crate::sample::{self, Network};
+use crate::network::Network;
+use crate::search;
 
 pub const MOST_SAMPLES: u64 = 4_096;
 pub const STATE_BYTES: usize = 8 * MOST_ELEMENTS;
@@ -28,16 +29,16 @@ fn stored_currents(circuit: &Circuit, state: &[u8]) -> Result<Vec<i128>, u64> {
 }
 
 /// One sample: the output voltage and the stored currents after it, or 9, 10 or 11.
-fn play(circuit: &Circuit, network: &Network, stored: &[i128], drives: &[i128]) -> Result<(i128, Vec<i128>), u64> {
+fn play(network: &Network, stored: &[i128], drives: &[i128]) -> Result<(i128, Vec<i128>), u64> {
     if drives.iter().any(|volts| volts.abs() > DRIVE_LIMIT) {
         return Err(9);
     }
-    let node = sample::voltages(network, stored, drives, TOP).ok_or(10u64)?;
-    let after = sample::advance(circuit, stored, &node);
+    let node = search::voltages(network, stored, drives, TOP).ok_or(10u64)?;
+    let after = network.advance(stored, &node);
     if after.iter().any(|x| x.abs() > STORED_LIMIT) {
         return Err(11);
     }
-    Ok((node[circuit.output], after))
+    Ok((node[network.circuit.output], after))
 }
 
 /// What numbers 1 to 8 decide: the circuit and its stored currents, if a block may begin.
@@ -61,7 +62,7 @@ pub fn block(image: &[u8], state: &mut [u8], n: u64, drives: &[u8], outputs: &mu
     for count in 0..n {
         let first = 4 * circuit.driven * count as usize;
         let now: Vec<i128> = drives[first..first + 4 * circuit.driven].chunks(4).map(signed).collect();
-        let (output, after) = match play(&circuit, &network, &stored, &now) {
+        let (output, after) = match play(&network, &stored, &now) {
             Ok(played) => played,
             Err(number) => return Outcome { number, count },
         };

@@ -4,7 +4,7 @@
 //! definition of the answer says. In the whole range, nodes are lowered by one microvolt while a net current is above zero, sample
 //! after sample with stored currents. Both have their own currents, a curve's as a sum of hinges.
 
-use crate::{block, image, sample};
+use crate::{block, image, network, search};
 
 /// One element as the reference sees it. `slopes` is empty for all but a diode.
 #[derive(Clone, Default)]
@@ -188,13 +188,13 @@ pub fn small_ranges(dice: &mut Dice, rounds: usize) -> (usize, usize) {
         let top = [300, 40, 12, 6][free - 1];
         let made = Reference::random(dice, free, top);
         let circuit = image::read(&made.image()).unwrap_or_else(|number| panic!("image refused {number}"));
-        let network = sample::Network::new(&circuit);
+        let network = network::Network::new(&circuit);
         for _ in 0..4 {
             let drives: Vec<i64> = (0..made.driven).map(|_| dice.roll(-top, top)).collect();
             let stored = made.random_stored(dice, 30 * top);
             let expected = made.by_definition(&drives, &stored, top);
             let wide = |numbers: &[i64]| numbers.iter().map(|&one| one as i128).collect::<Vec<_>>();
-            let found = sample::voltages(&network, &wide(&stored), &wide(&drives), top as i128);
+            let found = search::voltages(&network, &wide(&stored), &wide(&drives), top as i128);
             assert_eq!(found, expected.as_deref().map(wide), "round {round}");
             samples += 1;
             refused += expected.is_none() as usize;

@@ -2,7 +2,9 @@
 
 mod block;
 mod image;
-mod sample;
+mod network;
+mod search;
+mod start;
 
 /// A part of the host's memory; a length of zero may come with any pointer.
 unsafe fn lent<'a>(bytes: *const u8, length: usize) -> &'a [u8] {

@@ -2,7 +2,9 @@
 
 mod block;
 mod image;
-mod sample;
+mod network;
+mod search;
+mod start;
 
 use std::io::{self, BufWriter, Write};
 

@@ -4,8 +4,10 @@
 mod block;
 mod brute;
 mod image;
+mod network;
 mod rows;
-mod sample;
+mod search;
+mod start;
 
 fn main() {
     let rounds = std::env::args().nth(1).and_then(|word| word.parse().ok()).unwrap_or(1_000);
