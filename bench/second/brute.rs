@@ -1,8 +1,10 @@
-//! Holds the second program's samples against brute force on small random circuits.
+//! Holds the second program's samples against brute force on random circuits.
 //!
-//! Two references, both without any search for sets or steps. In a small range, all assignments are gone through, as the
-//! definition of the answer says. In the whole range, nodes are lowered by one microvolt while a net current is above zero, sample
-//! after sample with stored currents. Both have their own currents, a curve's as a sum of hinges.
+//! Three references, none with sets or steps, all with their own currents (a curve's is a sum of hinges):
+//! - in a small range, all assignments are gone through, as the definition of the answer says;
+//! - with small currents, nodes are lowered by one microvolt while a net current is above zero;
+//! - with real parts, one node after the other falls from the top to the highest voltage that its net current allows, found by bisection over
+//!   the whole range, until none falls any more.
 
 use crate::{block, image, network, search};
 
@@ -27,6 +29,31 @@ struct Reference {
 }
 
 const RATE: u32 = 8_000;
+const TOP: i64 = 33_554_432;
+
+/// What random circuits are made of. Of three numbers one is drawn first, so that weak and stiff parts meet.
+struct Parts {
+    most_conductance: [i64; 3],
+    most_picofarads: [i64; 3],
+    microhenries: [i64; 2],
+    most_slope: [i64; 3],
+}
+
+/// From one nanosiemens to links that are stiff against the leak.
+const SMALL: Parts = Parts {
+    most_conductance: [3, 60, 20_000],
+    most_picofarads: [1, 3, 5],
+    microhenries: [400_000_000, 4_200_000_000],
+    most_slope: [2, 40, 900],
+};
+
+/// Those of pedals.
+const REAL: Parts = Parts {
+    most_conductance: [10_000, 1_000_000, 100_000_000],
+    most_picofarads: [1_000, 100_000, 10_000_000],
+    microhenries: [1_000, 10_000_000],
+    most_slope: [1_000, 1_000_000, 500_000_000],
+};
 
 /// A small generator of numbers with a fixed beginning (xorshift, 64 bits).
 pub struct Dice(pub u64);
@@ -38,6 +65,15 @@ impl Dice {
         self.0 ^= self.0 >> 7;
         self.0 ^= self.0 << 17;
         low + (self.0 >> 8) as i64 % (high - low + 1)
+    }
+
+    fn one_of(&mut self, numbers: [i64; 3]) -> i64 {
+        numbers[self.roll(0, 2) as usize]
+    }
+
+    fn roll_up_to(&mut self, most: [i64; 3]) -> i64 {
+        let most = self.one_of(most);
+        self.roll(1, most)
     }
 }
 
@@ -102,6 +138,34 @@ impl Reference {
         node
     }
 
+    /// By bisection, one node after the other from the top. None if that takes too many turns; within it, none for the rail.
+    fn by_bisection(&self, drives: &[i64], stored: &[i64]) -> Option<Option<Vec<i64>>> {
+        let mut node = vec![TOP; self.nodes + 1];
+        node[0] = 0;
+        node[1..=self.driven].copy_from_slice(drives);
+        for _ in 0..500 {
+            let mut fell = false;
+            for at in self.driven + 1..=self.nodes {
+                // The highest voltage that is allowed lies from `low` to `high`, if it is in range.
+                let (mut low, mut high) = (-TOP - 1, node[at]);
+                let before = node[at];
+                while low < high {
+                    node[at] = low + (high - low + 1) / 2;
+                    if self.net(at, &node, stored) <= 0 { low = node[at] } else { high = node[at] - 1 }
+                }
+                if low < -TOP {
+                    return Some(None);
+                }
+                node[at] = low;
+                fell |= low < before;
+            }
+            if !fell {
+                return Some((!node[self.driven + 1..].contains(&TOP)).then_some(node));
+            }
+        }
+        None
+    }
+
     fn advance(&self, node: &[i64], stored: &mut [i64]) {
         for (part, x) in self.parts.iter().zip(stored) {
             let twice = 2 * part.conductance * (node[part.p] - node[part.q]);
@@ -131,44 +195,41 @@ impl Reference {
         bytes
     }
 
-    /// A circuit of `free` free nodes, its conductances from one nanosiemens to stiff links, its curves bent within `width`.
-    fn random(dice: &mut Dice, free: usize, width: i64) -> Reference {
+    /// A circuit of `free` free nodes, its curves bent within `width` microvolts.
+    fn random(dice: &mut Dice, free: usize, parts: &Parts, width: i64) -> Reference {
         let driven = dice.roll(0, 2) as usize;
         let mut made = Reference { nodes: driven + free, driven, parts: Vec::new() };
         let mut curves = 0;
         for _ in 0..dice.roll(1, 3 * free as i64 + 2) {
             let p = dice.roll(0, made.nodes as i64) as usize;
             let q = (p + dice.roll(1, made.nodes as i64) as usize) % (made.nodes + 1);
-            let mut part = Part { kind: dice.roll(1, 4) as u8, p, q, ..Part::default() };
-            if part.kind == 4 && curves == 8 {
-                part.kind = 1;
-            }
-            match part.kind {
-                1 => {
-                    let most = [3, 60, 20_000][dice.roll(0, 2) as usize];
-                    part.value = (1_000_000_000 / dice.roll(1, most)) as u32;
-                }
-                2 => part.value = dice.roll(1, 5) as u32,
-                3 => part.value = dice.roll(400_000_000, 4_200_000_000) as u32,
-                _ => {
-                    part.curve = curves;
-                    curves += 1;
-                    let mut at = -dice.roll(0, width);
-                    for _ in 0..dice.roll(1, 5) {
-                        part.breakpoints.push(at);
-                        at += dice.roll(1, width / 2 + 1);
-                    }
-                    let steep = [2, 40, 900][dice.roll(0, 2) as usize];
-                    part.slopes = (0..=part.breakpoints.len()).map(|_| dice.roll(0, steep)).collect();
-                }
-            }
-            let (value, rate) = (part.value as i64, RATE as i64);
-            part.conductance = match part.kind {
+            let kind = dice.roll(1, if curves < 8 { 4 } else { 3 }) as u8;
+            let mut part = Part { kind, p, q, ..Part::default() };
+            let rate = RATE as i64;
+            let value = match kind {
+                1 => 1_000_000_000 / dice.roll_up_to(parts.most_conductance),
+                2 => dice.roll_up_to(parts.most_picofarads),
+                3 => dice.roll(parts.microhenries[0], parts.microhenries[1]),
+                _ => 0,
+            };
+            part.value = value as u32;
+            part.conductance = match kind {
                 1 => 1_000_000_000 / value,
                 2 => 2 * value * rate / 1000,
                 3 => 1_000_000_000_000_000 / (2 * value * rate),
                 _ => 0,
             };
+            if kind == 4 {
+                part.curve = curves;
+                curves += 1;
+                let mut at = -dice.roll(0, width);
+                for _ in 0..dice.roll(1, 5) {
+                    part.breakpoints.push(at);
+                    at += dice.roll(1, width / 2 + 1);
+                }
+                let steep = dice.one_of(parts.most_slope);
+                part.slopes = (0..=part.breakpoints.len()).map(|_| dice.roll(0, steep)).collect();
+            }
             made.parts.push(part);
         }
         made
@@ -180,20 +241,23 @@ impl Reference {
     }
 }
 
+fn wide(numbers: &[i64]) -> Vec<i128> {
+    numbers.iter().map(|&one| one as i128).collect()
+}
+
 /// Samples in a small range against the definition; how many, and how many of them the rail refused.
 pub fn small_ranges(dice: &mut Dice, rounds: usize) -> (usize, usize) {
     let (mut samples, mut refused) = (0, 0);
     for round in 0..rounds {
         let free = 1 + round % 4;
         let top = [300, 40, 12, 6][free - 1];
-        let made = Reference::random(dice, free, top);
+        let made = Reference::random(dice, free, &SMALL, top);
         let circuit = image::read(&made.image()).unwrap_or_else(|number| panic!("image refused {number}"));
         let network = network::Network::new(&circuit);
         for _ in 0..4 {
             let drives: Vec<i64> = (0..made.driven).map(|_| dice.roll(-top, top)).collect();
             let stored = made.random_stored(dice, 30 * top);
             let expected = made.by_definition(&drives, &stored, top);
-            let wide = |numbers: &[i64]| numbers.iter().map(|&one| one as i128).collect::<Vec<_>>();
             let found = search::voltages(&network, &wide(&stored), &wide(&drives), top as i128);
             assert_eq!(found, expected.as_deref().map(wide), "round {round}");
             samples += 1;
@@ -203,11 +267,11 @@ pub fn small_ranges(dice: &mut Dice, rounds: usize) -> (usize, usize) {
     (samples, refused)
 }
 
-/// Blocks in the whole range against lowering by microvolts; how many samples.
-pub fn whole_range(dice: &mut Dice, rounds: usize) -> usize {
+/// Blocks with small currents against lowering by microvolts; how many samples.
+pub fn small_currents(dice: &mut Dice, rounds: usize) -> usize {
     let mut samples = 0;
     for round in 0..rounds {
-        let made = Reference::random(dice, 1 + round % 4, 100);
+        let made = Reference::random(dice, 1 + round % 4, &SMALL, 100);
         let n = 6;
         let drives: Vec<i64> = (0..n * made.driven).map(|_| dice.roll(-150, 150)).collect();
         let mut stored = made.random_stored(dice, 300);
@@ -224,8 +288,36 @@ pub fn whole_range(dice: &mut Dice, rounds: usize) -> usize {
             assert_eq!(output, node[made.nodes] as i128, "round {round}, sample {index}");
         }
         let after: Vec<i128> = state.chunks(8).map(image::signed).take(stored.len()).collect();
-        assert_eq!(after, stored.iter().map(|&x| x as i128).collect::<Vec<_>>(), "round {round}");
+        assert_eq!(after, wide(&stored), "round {round}");
         samples += n;
     }
     samples
+}
+
+/// Samples of real size against bisection: how many, how many of them the rail refused, and how many circuits took too many turns.
+pub fn real_sizes(dice: &mut Dice, rounds: usize) -> (usize, usize, usize) {
+    let (mut samples, mut refused, mut given_up) = (0, 0, 0);
+    for round in 0..rounds {
+        let made = Reference::random(dice, 1 + round % 10, &REAL, 2_000_000);
+        let circuit = image::read(&made.image()).unwrap_or_else(|number| panic!("image refused {number}"));
+        let network = network::Network::new(&circuit);
+        let most = dice.one_of([1_000_000, 10_000_000_000, 10_000_000_000_000]);
+        let mut stored = made.random_stored(dice, most);
+        for _ in 0..3 {
+            let drives: Vec<i64> = (0..made.driven).map(|_| dice.roll(-TOP / 2, TOP / 2)).collect();
+            let Some(expected) = made.by_bisection(&drives, &stored) else {
+                given_up += 1;
+                break;
+            };
+            let found = search::voltages(&network, &wide(&stored), &wide(&drives), TOP as i128);
+            assert_eq!(found, expected.as_deref().map(wide), "round {round}");
+            samples += 1;
+            let Some(node) = expected else {
+                refused += 1;
+                break;
+            };
+            made.advance(&node, &mut stored);
+        }
+    }
+    (samples, refused, given_up)
 }
