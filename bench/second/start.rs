@@ -5,8 +5,9 @@ use crate::image::{Circuit, Curve, Kind};
 use crate::network::LEAK;
 
 const ROUNDS: usize = 30;
-/// In microvolts. Far beyond any voltage that is accepted, and near enough that no current comes close to the limits of i128.
-const FARTHEST: f64 = (1u64 << 40) as f64;
+/// In microvolts: beyond nearly all that stored currents can bring about, and near enough for i128. Differences are then below 2^54, the net
+/// currents of 32 elements below 2^90, so that the leak makes them low within 2^91; and at such voltages currents are below 2^127.
+const FARTHEST: f64 = (1u64 << 52) as f64;
 
 /// The straight line that a curve follows at `volts`: its slope, and its current at zero volts.
 fn tangent(curve: &Curve, volts: f64) -> (f64, f64) {
