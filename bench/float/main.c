@@ -1,5 +1,5 @@
 /* float IMAGE DRIVES: the output node's voltage in microvolts, one line per sample.
-   float --time RUNS IMAGE DRIVES: nanoseconds per sample, the median of RUNS runs, each a tenth of a second or one rendering. */
+   float --time RUNS IMAGE DRIVES: nanoseconds per sample, the median of RUNS runs, each of at least a tenth of a second. */
 #include "simulate.h"
 
 #include <stdio.h>
@@ -26,10 +26,11 @@ static uint8_t *contents(const char *name, size_t *length)
     return bytes;
 }
 
+/* The processor's time and not the clock's, so that other programs on the machine disturb less. */
 static double now(void)
 {
     struct timespec time;
-    clock_gettime(CLOCK_MONOTONIC, &time);
+    clock_gettime(CLOCK_PROCESS_CPUTIME_ID, &time);
     return (double)time.tv_sec + 1e-9 * (double)time.tv_nsec;
 }
 
@@ -39,19 +40,30 @@ static int ascending(const void *one, const void *other)
     return (a > b) - (a < b);
 }
 
-/* Seconds per rendering, over as many renderings from a fresh state as fill a tenth of a second. */
-static double run(const struct circuit *circuit, const double *drives, size_t samples, double *outputs)
+/* Seconds that so many renderings take, each from a fresh state. */
+static double run(long renderings, const struct circuit *circuit, const double *drives, size_t samples, double *outputs)
 {
-    double start = now(), spent;
-    long renderings = 0;
-    do {
+    double start = now();
+    for (long i = 0; i < renderings; i++) {
         struct simulation simulation;
         simulation_start(&simulation, circuit);
         simulate(&simulation, drives, samples, outputs);
-        renderings++;
-        spent = now() - start;
-    } while (spent < 0.1);
-    return spent / (double)renderings;
+    }
+    return now() - start;
+}
+
+static double median_per_sample(long runs, const struct circuit *circuit, const double *drives, size_t samples, double *outputs)
+{
+    double *seconds = malloc((size_t)runs * sizeof *seconds);
+    long renderings = 1;
+    while (run(renderings, circuit, drives, samples, outputs) < 0.1)
+        renderings *= 2;
+    for (long i = 0; i < runs; i++)
+        seconds[i] = run(renderings, circuit, drives, samples, outputs);
+    qsort(seconds, (size_t)runs, sizeof *seconds, ascending);
+    double median = seconds[runs / 2];
+    free(seconds);
+    return median / (double)renderings / (double)samples;
 }
 
 int main(int count, char **words)
@@ -74,11 +86,7 @@ int main(int count, char **words)
     }
 
     if (runs > 0 && samples > 0) {
-        double *seconds = malloc((size_t)runs * sizeof *seconds);
-        for (long i = 0; i < runs; i++)
-            seconds[i] = run(&circuit, drives, samples, outputs);
-        qsort(seconds, (size_t)runs, sizeof *seconds, ascending);
-        printf("%.1f ns per sample\n", 1e9 * seconds[runs / 2] / (double)samples);
+        printf("%.1f ns per sample\n", 1e9 * median_per_sample(runs, &circuit, drives, samples, outputs));
         return 0;
     }
     struct simulation simulation;
