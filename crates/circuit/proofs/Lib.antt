@@ -2,5 +2,5 @@ pub mod AdvanceLaws
 pub mod BoardLaws
 pub mod BoundLaws
 pub mod CurveLaws
-pub mod Lines
+pub mod LineLaws
 pub mod Tables

@@ -21,7 +21,7 @@ curve-at-requires c κs = search needs
 steepest-requires : tie.Need-steepest-requires
 steepest-requires c κs =
     let t = c .before in
-    rw (c .curve-at .ensures, t .before .before .value .ensures) (diode-here t .ready .whole)
+    rw (c .curve-at .ensures, t .before .before .value .ensures) (diode-here t .ready .whole .length-is)
 
 returns : tie.Need-returns
 returns c =

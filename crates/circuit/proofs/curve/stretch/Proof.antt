@@ -7,7 +7,7 @@ use mir.Syntax.{w64}
 use mir.Val.{toZ, ofZ}
 use Rattle.network.specs.Network.{reading}
 use Rattle.image.specs.Curve.{breakpointsOf}
-use Rattle.circuit.proofs.Lines.{stretch-is}
+use Rattle.circuit.proofs.LineLaws.{stretch-is}
 use Rattle.circuit.proofs.Tables.{breakpoints-length, breakpoint-at}
 use mir.Facts.{toZ-ofZ}
 use Rattle.units.proofs.Integers.{ltZ-true, ltZ-false}
