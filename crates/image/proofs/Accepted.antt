@@ -199,8 +199,8 @@ module _ (image : List ℕ) (a : Accepted image) where
   branch-is j =
       ⊎-elim
       (λ (h : n ≤ j).
-        let z = past j h in
-        rw (none j h, z .kind, z .p, z .q, z .conductance, nothing-by (partsOf image .rate)))
+      let z = past j h in
+      rw (none j h, z .kind, z .p, z .q, z .conductance, nothing-by (partsOf image .rate)))
       (λ (h : j < n). rw (this j h, p-at j h, q-at j h, law-is j h, kind-at j h))
       (decideN n j)
 
@@ -219,9 +219,9 @@ module _ (image : List ℕ) (a : Accepted image) where
       rw (kind-at j h, conductance-at j h)
       (⊎-elim
       (λ (d : e j .kind ≡ diodeKind).
-        let t = curve-held j h d in
-        rw (eq-eqb (e j .kind) diodeKind d)
-        (curve-limits _ (rw (curve-head _ _ (t .0)) (t .0 .some)) (rw (curve-head _ _ (t .0)) (t .0 .few)) (t .1)))
+      let t = curve-held j h d in
+      rw (eq-eqb (e j .kind) diodeKind d)
+      (curve-limits _ (rw (curve-head _ _ (t .0)) (t .0 .some)) (rw (curve-head _ _ (t .0)) (t .0 .few)) (t .1)))
       (λ (d : e j .kind ≡ diodeKind → ⊥). rw (ne-eqb (e j .kind) diodeKind d) (measured j h d))
       (diode-or (e j .kind)))
 
@@ -247,10 +247,10 @@ module _ (image : List ℕ) (a : Accepted image) where
       ⊎-elim
       (λ (h : n ≤ j). omega (arith, past j h .conductance))
       (λ (h : j < n).
-        ⊎-elim
-        (λ (d : e j .kind ≡ diodeKind). omega (arith, conductance-at j h, diode-by (e j .kind) (e j .value) (trailerOf image .rate) d))
-        (λ (d : e j .kind ≡ diodeKind → ⊥). omega (arith, conductance-at j h, measured j h d .1))
-        (diode-or (e j .kind)))
+      ⊎-elim
+      (λ (d : e j .kind ≡ diodeKind). omega (arith, conductance-at j h, diode-by (e j .kind) (e j .value) (trailerOf image .rate) d))
+      (λ (d : e j .kind ≡ diodeKind → ⊥). omega (arith, conductance-at j h, measured j h d .1))
+      (diode-or (e j .kind)))
       (decideN n j)
 
   in-limits : InLimits (networkIn image c)
