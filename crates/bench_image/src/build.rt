@@ -31,7 +31,7 @@ pub fn byte(i: Image, at: usize, v: u8) -> Image {
     Image { bytes, n: i.n }
 }
 
-fn low(v: u64) -> u8 {
+pub fn low(v: u64) -> u8 {
     (v % 256) as u8
 }
 

@@ -10,9 +10,13 @@ pub fn text(s: &[u8]) {
     io::write_all(STDOUT_FILENO, s);
 }
 
+pub fn bare(n: u64) {
+    io::print_decimal(STDOUT_FILENO, n);
+}
+
 pub fn one(n: u64) {
     text(b" ");
-    io::print_decimal(STDOUT_FILENO, n);
+    bare(n);
 }
 
 fn place(n: usize) {
@@ -75,41 +79,6 @@ pub fn cuts(label: &[u8], i: Image, most: usize) {
         one(number(build::cut(i, n)));
     }
     plain(b" and whole", i);
-}
-
-// The numbers of an image with one other byte at a place, each of v in turn.
-pub fn bytes(label: &[u8], i: Image, at: usize, v: &[u8]) {
-    text(label);
-    let mut k: usize = 0;
-    while k < v.len() {
-        one(number(build::byte(i, at, v[k])));
-        k += 1;
-    }
-    text(b"\n");
-}
-
-// The same, each of v at a place of its own.
-pub fn places(label: &[u8], i: Image, at: &[usize], v: &[u8]) {
-    text(label);
-    let mut k: usize = 0;
-    while k < at.len() {
-        if k < v.len() {
-            one(number(build::byte(i, at[k], v[k])));
-        }
-        k += 1;
-    }
-    text(b"\n");
-}
-
-// The numbers of an image with four other bytes at one place, those of v[k].
-pub fn words(label: &[u8], i: Image, at: usize, v: &[u64]) {
-    text(label);
-    let mut k: usize = 0;
-    while k < v.len() {
-        one(number(build::word(i, at, v[k])));
-        k += 1;
-    }
-    text(b"\n");
 }
 
 // The numbers of images with one curve of zeros that says that it has 0, 1, .., 18 breakpoints.

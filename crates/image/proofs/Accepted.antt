@@ -1,24 +1,23 @@
 -- What an accepted image says: every rule holds, and so the facts that later layers need. Assumes nothing.
 use mathlib.Core.Path.{_≡_, refl, sym, _∙_, ap, fun-ext}
-use mathlib.Core.Bool.{Bool, true, false, cond, false≢true}
+use mathlib.Core.Bool.{Bool, true, false}
 use mathlib.Core.List.{List}
 use mathlib.Core.Logic.{_⊎_, inl, inr, ⊎-elim}
-use Prim.Native.Nat.{ℕ, zero, suc, _+_, _*_, _-_, _≤_, _<_}
+use Prim.Native.Nat.{ℕ, suc, _-_, _≤_, _<_}
 use native.Mathlib.Omega.{arith}
-use lib.Dec.{eqb, leb}
-use lib.IntN.{ℤ, pos, natAbs}
+use lib.Dec.{eqb}
+use lib.IntN.{pos}
 use lib.ListN.{length, getD}
 use borrow.Author.Tests.{eqb-true, eqb-false, eq-eqb, ne-eqb}
 use Rattle.units.proofs.Integers.{decideN}
-use Rattle.network.specs.Network.{Law, conductance, curve, nodeLimit, branchLimit, conductanceLimit, breakpointLimit, breakpointCountLimit, Branch, Network, CurveInLimits, LawInLimits, InLimits}
-use Rattle.image.specs.Tests.{between, every}
-use Rattle.image.specs.Curve.{tabulate, breakpointsAt, curveBytes, slopeOf, breakpointOf, slopesOf, breakpointsOf}
-use Rattle.image.specs.Circuit.{resistorKind, diodeKind, lawOf, storeOf, element, networkIn}
+use Rattle.network.specs.Network.{conductance, curve, branchLimit, conductanceLimit, breakpointCountLimit, CurveInLimits, LawInLimits, InLimits}
+use Rattle.image.specs.Curve.{curveBytes, slopeOf, breakpointOf, slopesOf, breakpointsOf}
+use Rattle.image.specs.Circuit.{resistorKind, diodeKind, lawOf, element, networkIn}
 use Rattle.image.specs.Conductance.{conductanceBy}
-use Rattle.image.specs.Format.{shortest, longest, curveLimit, Parts, Reading, accepted, refused, rule, lengthFits, trailerOf, trailerFits, sizesFit, firstCurve, startFrom, curveStart, curvesFit, elementAt, elementFits, elementsFit, conductanceAt, conductanceFits, conductancesFit, curveOf, partsOf, readingOf}
+use Rattle.image.specs.Format.{shortest, longest, curveLimit, Parts, Reading, accepted, rule, lengthFits, trailerOf, trailerFits, sizesFit, firstCurve, curveStart, curvesFit, elementAt, elementsFit, conductanceAt, conductanceFits, conductancesFit, curveOf, partsOf, readingOf}
 use Rattle.image.specs.Asked.{CurveThere}
 use Rattle.image.specs.Meaning.{noElement, noCurve, lawIn, branchIn, networkOf}
-use Rattle.image.specs.Opened.{padded, circuitIn}
+use Rattle.image.specs.Opened.{circuitIn}
 use Rattle.image.specs.Sound.{CurveSound, Sound}
 use Rattle.image.specs.declared.circuit.Circuit.{Circuit}
 use Rattle.image.specs.declared.element.Element.{Element}
