@@ -1,24 +1,23 @@
 -- What an accepted image says: every rule holds, and so the facts that later layers need. Assumes nothing.
 use mathlib.Core.Path.{_≡_, refl, sym, _∙_, ap, fun-ext}
-use mathlib.Core.Bool.{Bool, true, false, cond, false≢true}
+use mathlib.Core.Bool.{Bool, true, false}
 use mathlib.Core.List.{List}
 use mathlib.Core.Logic.{_⊎_, inl, inr, ⊎-elim}
-use Prim.Native.Nat.{ℕ, zero, suc, _+_, _*_, _-_, _≤_, _<_}
+use Prim.Native.Nat.{ℕ, suc, _-_, _≤_, _<_}
 use native.Mathlib.Omega.{arith}
-use lib.Dec.{eqb, leb}
-use lib.IntN.{ℤ, pos, natAbs}
+use lib.Dec.{eqb}
+use lib.IntN.{pos}
 use lib.ListN.{length, getD}
 use borrow.Author.Tests.{eqb-true, eqb-false, eq-eqb, ne-eqb}
 use Rattle.units.proofs.Integers.{decideN}
-use Rattle.network.specs.Network.{Law, conductance, curve, nodeLimit, branchLimit, conductanceLimit, breakpointLimit, breakpointCountLimit, Branch, Network, CurveInLimits, LawInLimits, InLimits}
-use Rattle.image.specs.Tests.{between, every}
-use Rattle.image.specs.Curve.{tabulate, breakpointsAt, curveBytes, slopeOf, breakpointOf, slopesOf, breakpointsOf}
-use Rattle.image.specs.Circuit.{resistorKind, diodeKind, lawOf, storeOf, element, networkIn}
+use Rattle.network.specs.Network.{conductance, curve, branchLimit, conductanceLimit, breakpointCountLimit, CurveInLimits, LawInLimits, InLimits}
+use Rattle.image.specs.Curve.{curveBytes, slopeOf, breakpointOf, slopesOf, breakpointsOf}
+use Rattle.image.specs.Circuit.{resistorKind, diodeKind, lawOf, element, networkIn}
 use Rattle.image.specs.Conductance.{conductanceBy}
-use Rattle.image.specs.Format.{shortest, longest, curveLimit, Parts, Reading, accepted, refused, rule, lengthFits, trailerOf, trailerFits, sizesFit, firstCurve, startFrom, curveStart, curvesFit, elementAt, elementFits, elementsFit, conductanceAt, conductanceFits, conductancesFit, curveOf, partsOf, readingOf}
+use Rattle.image.specs.Format.{shortest, longest, curveLimit, Parts, Reading, accepted, rule, lengthFits, trailerOf, trailerFits, sizesFit, firstCurve, curveStart, curvesFit, elementAt, elementsFit, conductanceAt, conductanceFits, conductancesFit, curveOf, partsOf, readingOf}
 use Rattle.image.specs.Asked.{CurveThere}
 use Rattle.image.specs.Meaning.{noElement, noCurve, lawIn, branchIn, networkOf}
-use Rattle.image.specs.Opened.{padded, circuitIn}
+use Rattle.image.specs.Opened.{circuitIn}
 use Rattle.image.specs.Sound.{CurveSound, Sound}
 use Rattle.image.specs.declared.circuit.Circuit.{Circuit}
 use Rattle.image.specs.declared.element.Element.{Element}
@@ -199,8 +198,8 @@ module _ (image : List ℕ) (a : Accepted image) where
   branch-is j =
       ⊎-elim
       (λ (h : n ≤ j).
-        let z = past j h in
-        rw (none j h, z .kind, z .p, z .q, z .conductance, nothing-by (partsOf image .rate)))
+      let z = past j h in
+      rw (none j h, z .kind, z .p, z .q, z .conductance, nothing-by (partsOf image .rate)))
       (λ (h : j < n). rw (this j h, p-at j h, q-at j h, law-is j h, kind-at j h))
       (decideN n j)
 
@@ -219,9 +218,9 @@ module _ (image : List ℕ) (a : Accepted image) where
       rw (kind-at j h, conductance-at j h)
       (⊎-elim
       (λ (d : e j .kind ≡ diodeKind).
-        let t = curve-held j h d in
-        rw (eq-eqb (e j .kind) diodeKind d)
-        (curve-limits _ (rw (curve-head _ _ (t .0)) (t .0 .some)) (rw (curve-head _ _ (t .0)) (t .0 .few)) (t .1)))
+      let t = curve-held j h d in
+      rw (eq-eqb (e j .kind) diodeKind d)
+      (curve-limits _ (rw (curve-head _ _ (t .0)) (t .0 .some)) (rw (curve-head _ _ (t .0)) (t .0 .few)) (t .1)))
       (λ (d : e j .kind ≡ diodeKind → ⊥). rw (ne-eqb (e j .kind) diodeKind d) (measured j h d))
       (diode-or (e j .kind)))
 
@@ -247,10 +246,10 @@ module _ (image : List ℕ) (a : Accepted image) where
       ⊎-elim
       (λ (h : n ≤ j). omega (arith, past j h .conductance))
       (λ (h : j < n).
-        ⊎-elim
-        (λ (d : e j .kind ≡ diodeKind). omega (arith, conductance-at j h, diode-by (e j .kind) (e j .value) (trailerOf image .rate) d))
-        (λ (d : e j .kind ≡ diodeKind → ⊥). omega (arith, conductance-at j h, measured j h d .1))
-        (diode-or (e j .kind)))
+      ⊎-elim
+      (λ (d : e j .kind ≡ diodeKind). omega (arith, conductance-at j h, diode-by (e j .kind) (e j .value) (trailerOf image .rate) d))
+      (λ (d : e j .kind ≡ diodeKind → ⊥). omega (arith, conductance-at j h, measured j h d .1))
+      (diode-or (e j .kind)))
       (decideN n j)
 
   in-limits : InLimits (networkIn image c)

@@ -1,12 +1,11 @@
 -- The reading by the first rule that fails, and back: what an accepted reading says of the rules. Assumes nothing.
-use mathlib.Core.Path.{_≡_, refl, sym, _∙_, ap}
-use mathlib.Core.Bool.{Bool, true, false, cond}
+use mathlib.Core.Path.{_≡_}
+use mathlib.Core.Bool.{true, false}
 use mathlib.Core.List.{List}
-use Prim.Native.Nat.{ℕ, zero, suc}
-use native.Mathlib.Omega.{arith}
+use Prim.Native.Nat.{ℕ, suc}
 use lib.ListN.{length}
-use Rattle.image.specs.Format.{Parts, Reading, accepted, refused, rule, lengthFits, trailerOf, trailerFits, sizesFit, firstCurve, curvesFit, elementsFit, conductancesFit, partsOf, readingOf}
-use Rattle.image.specs.Opened.{numberOf, readingBy, circuitIn, noCircuit, circuitOf, Read}
+use Rattle.image.specs.Format.{accepted, refused, lengthFits, trailerOf, trailerFits, sizesFit, firstCurve, curvesFit, elementsFit, conductancesFit, partsOf, readingOf}
+use Rattle.image.specs.Opened.{numberOf, circuitIn, noCircuit, Read}
 use Rattle.image.specs.declared.trailer.Trailer.{Trailer}
 use Rattle.image.specs.declared.reader.Opened.{Opened}
 

@@ -1,17 +1,14 @@
 -- What each of the six rules says when it holds: the test as facts, by name. Assumes nothing.
-use mathlib.Core.Path.{_≡_, refl, sym, _∙_, ap}
-use mathlib.Core.Bool.{Bool, true, false, _&&_, _||_, not, cond, false≢true}
+use mathlib.Core.Path.{_≡_}
+use mathlib.Core.Bool.{Bool, true, false, _&&_, not, cond}
 use mathlib.Core.List.{List}
-use mathlib.Core.Logic.{_⊎_, inl, inr, ⊎-elim}
-use Prim.Native.Nat.{ℕ, zero, suc, _+_, _*_, _-_, _≤_, _<_}
+use Prim.Native.Nat.{ℕ, _+_, _*_, _-_, _≤_, _<_}
 use native.Mathlib.Omega.{arith}
 use lib.Dec.{eqb, leb, ltb}
-use lib.IntN.{ℤ, natAbs}
+use lib.IntN.{natAbs}
 use lib.ListN.{length, getD}
-use lib.Signed.{ltZ}
 use borrow.Author.Tests.{leb-true, ltb-true, eqb-true, eqb-false, ne-eqb, eq-eqb, not-true}
-use Rattle.units.specs.Voltage.{within}
-use Rattle.network.specs.Network.{nodeLimit, branchLimit, conductanceLimit, breakpointLimit, breakpointCountLimit}
+use Rattle.network.specs.Network.{nodeLimit, branchLimit, conductanceLimit, breakpointLimit}
 use Rattle.image.specs.Tests.{between, every}
 use Rattle.image.specs.Curve.{curveBytes, slopeOf, breakpointOf}
 use Rattle.image.specs.Circuit.{resistorKind, diodeKind}

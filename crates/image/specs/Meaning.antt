@@ -1,6 +1,6 @@
 -- The network that a circuit's parts mean: the leak of the version, and a branch for each element in image order. Assumes nothing.
 use mathlib.Core.Bool.{cond}
-use mathlib.Core.List.{List, []}
+use mathlib.Core.List.{[]}
 use Prim.Native.Nat.{ℕ}
 use lib.Dec.{eqb}
 use lib.ListN.{length, getD}

@@ -1,22 +1,18 @@
-use mathlib.Core.Path.{_≡_, refl, sym, _∙_, ap}
-use mathlib.Core.Bool.{true, false}
-use Prim.Native.Nat.{ℕ, _+_, _*_, _-_, _≤_, _<_}
+-- `image::conductance::conductances_fit` meets its contract. Every element that the loop has passed fits. Assumes nothing.
+use mathlib.Core.Path.{_≡_, sym, _∙_}
+use mathlib.Core.Bool.{true}
+use Prim.Native.Nat.{ℕ, _-_, _≤_}
 use native.Mathlib.Omega.{arith}
-use lib.ListN.{length, getD}
+use lib.ListN.{getD}
 use denote.Ref.{now}
 use borrow.Author.Tests.{not-true, not-false}
+use borrow.Author.Needs.{needs}
 use Rattle.image.specs.Tests.{every}
 use Rattle.image.specs.Format.{elementAt, conductanceFits, conductanceAt}
-use Rattle.image.specs.Opened.{padded}
 use Rattle.image.proofs.Every.{every-none, every-more, every-fails}
 use Rattle.image.proofs.Tables.{padded-at}
-use borrow.Author.Needs.{needs}
 use Rattle.image.proofs.conductance.conductances_fit.Statement.{statement}
 use Rattle.image.proofs.conductance.conductances_fit.Tie as tie
-use Rattle.image.proofs.conductance.conductances_fit.Reads as reads
-use Rattle.image.proofs.conductance.conductances_fit.Lts as lts
-use Rattle.image.proofs.conductance.conductance_fits.Reads as conductance-fits-reads
-use Rattle.image.proofs.element.element_at.Reads as element-at-reads
 
 abbrev Inv-loop : tie.InvT-loop
 Inv-loop image n rate g j₀ j = (j ≤ n) × (every (λ (j : ℕ). conductanceFits (elementAt image j .kind) (conductanceAt image rate j)) j ≡ true)
@@ -24,7 +20,6 @@ Inv-loop image n rate g j₀ j = (j ≤ n) × (every (λ (j : ℕ). conductanceF
 abbrev μ-loop : tie.MeasureT-loop
 μ-loop image n rate g j₀ j = n - j
 
--- src/conductance.rt:78:5
 -- what was tested
 same : (c : tie.After-conductance-fits Inv-loop μ-loop) → c .conductance-fits .result ≡ conductanceFits (elementAt (now (c .before .before .before .before .before .before .args .image)) (c .before .before .before .before .loop .j) .kind) (conductanceAt (now (c .before .before .before .before .before .before .args .image)) (c .before .before .before .before .before .before .args .rate) (c .before .before .before .before .loop .j))
 same c =
@@ -36,39 +31,30 @@ same c =
 loop-holds : tie.Need-loop-holds Inv-loop μ-loop
 loop-holds c = (search needs, every-none _)
 
--- src/conductance.rt:79:13
 element-at-requires : tie.Need-element-at-requires Inv-loop μ-loop
 element-at-requires c κs = search needs
 
--- src/conductance.rt:80:38
 mul-conductance-fits : tie.Need-mul-conductance-fits Inv-loop μ-loop
 mul-conductance-fits c = search needs
 
--- src/conductance.rt:80:38
 element-copy-out-conductance-fits : tie.Need-element-copy-out-conductance-fits Inv-loop μ-loop
 element-copy-out-conductance-fits c = search needs
 
--- src/conductance.rt:80:13
 conductance-fits-requires : tie.Need-conductance-fits-requires Inv-loop μ-loop
 conductance-fits-requires c κs = search needs
 
--- src/conductance.rt:81:13
 returns : tie.Need-returns Inv-loop μ-loop
 returns c = sym (every-fails _ _ (c .before .before .before .before .before .loop .j) (c .before .before .before .before .loop-test .taken) (sym (same (c .before)) ∙ not-true _ (c .if1 .taken)))
 
--- src/conductance.rt:83:9
 add-j : tie.Need-add-j Inv-loop μ-loop
 add-j c = search needs
 
--- src/conductance.rt:78:5
 loop-less : tie.Need-loop-less Inv-loop μ-loop
 loop-less c = search needs
 
--- src/conductance.rt:78:5
 loop-again : tie.Need-loop-again Inv-loop μ-loop
 loop-again c = (search needs, every-more _ _ (c .before .before .before .before .before .loop .inv .1) (sym (same (c .before)) ∙ not-false _ (c .if1 .left)))
 
--- src/conductance.rt:73:1
 returns-2 : tie.Need-returns-2 Inv-loop μ-loop
 returns-2 c =
     let e : c .before .loop .j ≡ c .before .before .before .args .n = omega arith in

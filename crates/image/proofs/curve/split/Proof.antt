@@ -1,24 +1,20 @@
-use denote.Ref.{now}
-use lib.ListN.{List·getD-eq-default}
-use borrow.Author.Tests.{not-true, not-false}
-use Rattle.image.proofs.Curves.{start-none, start-more, splits-fails, splits-ends}
-use mathlib.Core.Path.{_≡_, refl, sym, _∙_, ap}
-use mathlib.Core.Bool.{true, false, _&&_, _||_, not}
-use Prim.Native.Nat.{ℕ, suc, _+_, _*_, _-_, _^_, _≤_, _<_}
+-- `image::curve::split` meets its contract. The loop stands at the start of curve k, and every curve before it has a size in range. Assumes nothing.
+use mathlib.Core.Path.{_≡_, sym}
+use mathlib.Core.Bool.{true}
+use Prim.Native.Nat.{ℕ, _-_, _≤_}
 use native.Mathlib.Omega.{arith}
-use lib.ListN.{length, getD}
-use Rattle.image.specs.Tests.{between, every}
-use Rattle.image.proofs.Every.{every-none, every-more, every-fails, every-says}
-use Rattle.network.specs.Network.{breakpointCountLimit}
-use Rattle.image.specs.Curve.{breakpointsAt, curveLength}
-use Rattle.image.specs.Format.{startFrom, splits}
+use lib.ListN.{List·getD-eq-default}
+use denote.Ref.{now}
+use borrow.Author.Tests.{not-true, not-false}
 use borrow.Author.Needs.{needs}
+use Rattle.network.specs.Network.{breakpointCountLimit}
+use Rattle.image.specs.Tests.{between, every}
+use Rattle.image.specs.Curve.{breakpointsAt}
+use Rattle.image.specs.Format.{startFrom}
+use Rattle.image.proofs.Curves.{start-none, start-more, splits-fails, splits-ends}
+use Rattle.image.proofs.Every.{every-none, every-more}
 use Rattle.image.proofs.curve.split.Statement.{statement}
 use Rattle.image.proofs.curve.split.Tie as tie
-use Rattle.image.proofs.curve.split.Reads as reads
-use Rattle.image.proofs.curve.split.Lts as lts
-use Rattle.image.proofs.curve.curve_length.Reads as curve-length-reads
-use Rattle.image.proofs.field.byte.Reads as byte-reads
 
 abbrev Inv-loop : tie.InvT-loop
 Inv-loop image first count end at₀ k₀ at k =
@@ -27,11 +23,9 @@ Inv-loop image first count end at₀ k₀ at k =
 abbrev μ-loop : tie.MeasureT-loop
 μ-loop image first count end at₀ k₀ at k = count - k
 
--- src/curve.rt:67:5
 loop-holds : tie.Need-loop-holds Inv-loop μ-loop
 loop-holds c = (search needs, (start-none _ _, every-none _))
 
--- src/curve.rt:69:13
 returns : tie.Need-returns Inv-loop μ-loop
 returns c =
     let s = c .before .before .before .before .args in
@@ -39,34 +33,27 @@ returns c =
     let z : breakpointsAt (now (s .image)) (startFrom (now (s .image)) (s .first) (l .k)) ≡ 0 = List·getD-eq-default (now (s .image)) 0 (omega arith) in
     sym (splits-fails (now (s .image)) (s .first) (s .count) (s .end) (l .k) (c .before .loop-test .taken) (rw z))
 
--- src/curve.rt:71:13
 byte-requires : tie.Need-byte-requires Inv-loop μ-loop
 byte-requires c κs = search needs
 
--- src/curve.rt:73:13
 returns-2 : tie.Need-returns-2 Inv-loop μ-loop
 returns-2 c =
     let s = c .before .before .before .before .before .before .args in
     let l = c .before .before .before .before .loop in
     sym (splits-fails (now (s .image)) (s .first) (s .count) (s .end) (l .k) (c .before .before .before .loop-test .taken) (rw (← l .inv .1 .0, ← c .before .byte .ensures .0) (not-true _ (c .if2 .taken))))
 
--- src/curve.rt:75:15
 curve-length-requires : tie.Need-curve-length-requires Inv-loop μ-loop
 curve-length-requires c κs = search needs
 
--- src/curve.rt:75:9
 add-at : tie.Need-add-at Inv-loop μ-loop
 add-at c = search needs
 
--- src/curve.rt:76:9
 add-k : tie.Need-add-k Inv-loop μ-loop
 add-k c = search needs
 
--- src/curve.rt:67:5
 loop-less : tie.Need-loop-less Inv-loop μ-loop
 loop-less c = search needs
 
--- src/curve.rt:67:5
 loop-again : tie.Need-loop-again Inv-loop μ-loop
 loop-again c =
     let s = c .before .before .before .before .before .before .before .args in
@@ -78,7 +65,6 @@ loop-again c =
       ),
     )
 
--- src/curve.rt:62:1
 returns-3 : tie.Need-returns-3 Inv-loop μ-loop
 returns-3 c =
     let s = c .before .before .before .args in

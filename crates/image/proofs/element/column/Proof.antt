@@ -1,18 +1,13 @@
-use mathlib.Core.Path.{_≡_, refl, sym, _∙_, ap}
-use mathlib.Core.Bool.{true, false}
-use Prim.Native.Nat.{ℕ, _+_, _*_, _-_, _≤_, _<_}
+-- `image::element::column` meets its contract. The array is the padded table as far as the loop has come. Assumes nothing.
+use mathlib.Core.Path.{_≡_}
+use Prim.Native.Nat.{ℕ, _+_, _*_, _-_, _≤_}
 use native.Mathlib.Omega.{arith}
-use lib.ListN.{length, getD}
-use denote.Ref.{now}
-use borrow.Author.Tests.{not-true, not-false}
+use lib.ListN.{getD}
+use borrow.Author.Needs.{needs}
 use Rattle.image.specs.Opened.{padded}
 use Rattle.image.proofs.Tables.{padded-none, padded-more}
-use borrow.Author.Needs.{needs}
 use Rattle.image.proofs.element.column.Statement.{statement}
 use Rattle.image.proofs.element.column.Tie as tie
-use Rattle.image.proofs.element.column.Reads as reads
-use Rattle.image.proofs.element.column.Lts as lts
-use Rattle.image.proofs.field.byte.Reads as byte-reads
 
 abbrev Inv-loop : tie.InvT-loop
 Inv-loop image n place a₀ j₀ a j = (j ≤ n) × (a ≡ padded 32 (λ (j : ℕ). getD image (8 * j + place) 0) j)
@@ -20,45 +15,35 @@ Inv-loop image n place a₀ j₀ a j = (j ≤ n) × (a ≡ padded 32 (λ (j : �
 abbrev μ-loop : tie.MeasureT-loop
 μ-loop image n place a₀ j₀ a j = n - j
 
--- src/element.rt:86:5
 loop-holds : tie.Need-loop-holds Inv-loop μ-loop
 loop-holds c = (search needs, padded-none 32 _)
 
--- src/element.rt:87:35
 mul-byte : tie.Need-mul-byte Inv-loop μ-loop
 mul-byte c = search needs
 
--- src/element.rt:87:35
 add-byte : tie.Need-add-byte Inv-loop μ-loop
 add-byte c = search needs
 
--- src/element.rt:87:16
 byte-requires : tie.Need-byte-requires Inv-loop μ-loop
 byte-requires c κs = search needs
 
--- src/element.rt:87:9
 mul-a : tie.Need-mul-a Inv-loop μ-loop
 mul-a c = search needs
 
--- src/element.rt:87:9
 array-write-a : tie.Need-array-write-a Inv-loop μ-loop
 array-write-a c = search needs
 
--- src/element.rt:88:9
 add-j : tie.Need-add-j Inv-loop μ-loop
 add-j c = search needs
 
--- src/element.rt:86:5
 loop-less : tie.Need-loop-less Inv-loop μ-loop
 loop-less c = search needs
 
--- src/element.rt:86:5
 loop-again : tie.Need-loop-again Inv-loop μ-loop
 loop-again c =
     let l = c .before .before .loop in
     (search needs, rw (l .inv .1) (padded-more 32 _ (l .j) _ (omega arith) (c .byte .ensures .0)))
 
--- src/element.rt:80:1
 returns : tie.Need-returns Inv-loop μ-loop
 returns c =
     let e : c .before .loop .j ≡ c .before .before .before .args .n = omega arith in

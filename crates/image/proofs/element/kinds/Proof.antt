@@ -1,18 +1,14 @@
-use mathlib.Core.Path.{_≡_, refl, sym, _∙_, ap}
-use mathlib.Core.Bool.{true, false}
-use Prim.Native.Nat.{ℕ, _+_, _*_, _-_, _≤_, _<_}
+-- `image::element::kinds` meets its contract. The array is the padded table as far as the loop has come. Assumes nothing.
+use mathlib.Core.Path.{_≡_, refl}
+use Prim.Native.Nat.{ℕ, _-_, _≤_}
 use native.Mathlib.Omega.{arith}
-use lib.ListN.{length, getD}
 use denote.Ref.{now}
-use borrow.Author.Tests.{not-true, not-false}
+use borrow.Author.Needs.{needs}
 use Rattle.image.specs.Format.{elementAt}
 use Rattle.image.specs.Opened.{padded}
 use Rattle.image.proofs.Tables.{padded-none, padded-more}
-use borrow.Author.Needs.{needs}
 use Rattle.image.proofs.element.kinds.Statement.{statement}
 use Rattle.image.proofs.element.kinds.Tie as tie
-use Rattle.image.proofs.element.kinds.Reads as reads
-use Rattle.image.proofs.element.kinds.Lts as lts
 
 abbrev Inv-loop : tie.InvT-loop
 Inv-loop image n a₀ j₀ a j = (j ≤ n) × (a ≡ padded 32 (λ (j : ℕ). elementAt image j .kind) j)
@@ -20,38 +16,30 @@ Inv-loop image n a₀ j₀ a j = (j ≤ n) × (a ≡ padded 32 (λ (j : ℕ). el
 abbrev μ-loop : tie.MeasureT-loop
 μ-loop image n a₀ j₀ a j = n - j
 
--- src/element.rt:72:5
 loop-holds : tie.Need-loop-holds Inv-loop μ-loop
 loop-holds c = (search needs, padded-none 32 _)
 
--- src/element.rt:73:22
 mul-a : tie.Need-mul-a Inv-loop μ-loop
 mul-a c = search needs
 
--- src/element.rt:73:16
 shared-slice-read-a : tie.Need-shared-slice-read-a Inv-loop μ-loop
 shared-slice-read-a c = search needs
 
--- src/element.rt:73:9
 array-write-a : tie.Need-array-write-a Inv-loop μ-loop
 array-write-a c = search needs
 
--- src/element.rt:74:9
 add-j : tie.Need-add-j Inv-loop μ-loop
 add-j c = search needs
 
--- src/element.rt:72:5
 loop-less : tie.Need-loop-less Inv-loop μ-loop
 loop-less c = search needs
 
--- src/element.rt:72:5
 loop-again : tie.Need-loop-again Inv-loop μ-loop
 unfolding elementAt
 loop-again c =
     let l = c .before .before .loop in
     (search needs, rw (l .inv .1) (padded-more 32 (λ (j : ℕ). elementAt (now (c .before .before .before .args .image)) j .kind) (l .j) _ (omega arith) refl))
 
--- src/element.rt:66:1
 returns : tie.Need-returns Inv-loop μ-loop
 returns c =
     let e : c .before .loop .j ≡ c .before .before .args .n = omega arith in

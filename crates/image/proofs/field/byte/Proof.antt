@@ -1,20 +1,16 @@
+-- `image::field::byte` meets its contract. A byte is below 256. Assumes nothing.
 use mathlib.Core.Path.{refl}
 use native.Mathlib.Omega.{arith}
 use borrow.Author.Needs.{needs}
 use Rattle.image.proofs.field.byte.Statement.{statement}
 use Rattle.image.proofs.field.byte.Tie as tie
-use Rattle.image.proofs.field.byte.Reads as reads
-use Rattle.image.proofs.field.byte.Lts as lts
 
--- src/field.rt:14:5
 shared-slice-read-result : tie.Need-shared-slice-read-result
 shared-slice-read-result c = search needs
 
--- src/field.rt:14:5
 cast-result : tie.Need-cast-result
 cast-result c = omega (arith, c .shared-slice-known .given (c .before .args .at))
 
--- src/field.rt:10:1
 returns : tie.Need-returns
 returns c = (refl, omega (arith, c .shared-slice-known .given (c .before .args .at)))
 

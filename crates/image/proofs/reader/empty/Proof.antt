@@ -1,12 +1,9 @@
+-- `image::reader::empty` meets its contract. By computation. Assumes nothing.
 use mathlib.Core.Path.{refl}
 use Rattle.image.specs.Opened.{noCircuit}
-use borrow.Author.Needs.{needs}
 use Rattle.image.proofs.reader.empty.Statement.{statement}
 use Rattle.image.proofs.reader.empty.Tie as tie
-use Rattle.image.proofs.reader.empty.Reads as reads
-use Rattle.image.proofs.reader.empty.Lts as lts
 
--- src/reader.rt:51:1
 returns : tie.Need-returns
 unfolding noCircuit
 returns c = refl

@@ -1,15 +1,14 @@
 -- `image::reader::read` meets its contract: a fact for each rule that held, and a law of the reading for each return.
 -- Assumes nothing.
 use mathlib.Core.Path.{_≡_, refl, sym, _∙_, ap}
-use mathlib.Core.Bool.{true, false}
-use Prim.Native.Nat.{ℕ, _+_, _*_, _-_, _≤_, _<_}
+use mathlib.Core.Bool.{true}
+use Prim.Native.Nat.{ℕ, _*_, _-_, _≤_, _<_}
 use native.Mathlib.Omega.{arith}
-use lib.ListN.{length, getD}
+use lib.ListN.{length}
 use denote.Ref.{now}
 use borrow.Author.Needs.{needs}
 use borrow.Author.Tests.{not-true, not-false}
-use Rattle.image.specs.Tests.{every}
-use Rattle.image.specs.Format.{shortest, longest, lengthFits, trailerFits, sizesFit, firstCurve, curvesFit, elementAt, elementFits, elementsFit, conductancesFit}
+use Rattle.image.specs.Format.{shortest, longest, lengthFits, trailerFits, sizesFit, firstCurve, curvesFit, elementAt, elementsFit, conductancesFit}
 use Rattle.image.specs.Opened.{numberOf}
 use Rattle.image.proofs.Every.{between-says, every-says}
 use Rattle.image.proofs.Rules.{TrailerSays, SizesSay, ElementSays, trailer-says, sizes-say, element-says}

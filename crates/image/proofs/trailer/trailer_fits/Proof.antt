@@ -1,12 +1,9 @@
+-- `image::trailer::trailer_fits` meets its contract. By computation. Assumes nothing.
 use mathlib.Core.Path.{refl}
 use Rattle.image.specs.Format.{trailerFits}
-use borrow.Author.Needs.{needs}
 use Rattle.image.proofs.trailer.trailer_fits.Statement.{statement}
 use Rattle.image.proofs.trailer.trailer_fits.Tie as tie
-use Rattle.image.proofs.trailer.trailer_fits.Reads as reads
-use Rattle.image.proofs.trailer.trailer_fits.Lts as lts
 
--- src/trailer.rt:44:1
 returns : tie.Need-returns
 unfolding trailerFits
 returns c = refl
