@@ -33,11 +33,21 @@ fn twice(image: &[u8], board: &[u64; 164], lines: &[i64; 136], volts: &[i64; 16]
     requires { ⌜ Ready (now image) (now board) (now lines) × Ranged (now board) (now volts) × (j < countOn (now board)) ⌝ }
     ensures { λ r. ⌜ Twice (now (image .entry)) (now (board .entry)) (now (volts .entry)) j r ⌝ }
 {
-    signed::times(signed::whole(2 * branch::conductance(image, board, j)), branch::across(board, volts, j))
+    signed::times(
+        signed::whole(2 * branch::conductance(image, board, j)),
+        branch::across(board, volts, j),
+    )
 }
 
 // The stored current of element j after a sample, x being the one before it.
-fn next(image: &[u8], board: &[u64; 164], lines: &[i64; 136], volts: &[i64; 16], j: usize, x: i64) -> i64
+fn next(
+    image: &[u8],
+    board: &[u64; 164],
+    lines: &[i64; 136],
+    volts: &[i64; 16],
+    j: usize,
+    x: i64,
+) -> i64
     requires { ⌜ Ready (now image) (now board) (now lines) × Ranged (now board) (now volts) × (j < countOn (now board)) × Within storedLimit x ⌝ }
     ensures { λ r. ⌜ r ≡ nextOn (now (image .entry)) (now (board .entry)) (now (volts .entry)) j x ⌝ }
 {
@@ -52,7 +62,13 @@ fn next(image: &[u8], board: &[u64; 164], lines: &[i64; 136], volts: &[i64; 16],
 }
 
 // Whether every new stored current is within its limit.
-fn all_kept(image: &[u8], board: &[u64; 164], lines: &[i64; 136], volts: &[i64; 16], stored: &[i64; 32]) -> bool
+fn all_kept(
+    image: &[u8],
+    board: &[u64; 164],
+    lines: &[i64; 136],
+    volts: &[i64; 16],
+    stored: &[i64; 32],
+) -> bool
     requires { ⌜ Evaluable (now image) (now board) (now lines) (now stored) (now volts) ⌝ }
     ensures { λ r. ⌜ AllKept (now (image .entry)) (now (board .entry)) (now (volts .entry)) (now (stored .entry)) r ⌝ }
 {
@@ -68,7 +84,13 @@ fn all_kept(image: &[u8], board: &[u64; 164], lines: &[i64; 136], volts: &[i64; 
 }
 
 // Stores every new stored current. Each depends on its own old one alone, so that it can take its place.
-fn store_all(image: &[u8], board: &[u64; 164], lines: &[i64; 136], volts: &[i64; 16], stored: &mut [i64; 32])
+fn store_all(
+    image: &[u8],
+    board: &[u64; 164],
+    lines: &[i64; 136],
+    volts: &[i64; 16],
+    stored: &mut [i64; 32],
+)
     requires { ⌜ Evaluable (now image) (now board) (now lines) (now stored) (now volts) × (length (now stored) ≡ 32) ⌝ }
     ensures { λ _. ⌜ StoredTo (now (image .entry)) (now (board .entry)) (now (volts .entry)) (now (stored .entry)) (countOn (now (board .entry))) (now (stored .exit)) ⌝ }
 {
@@ -81,7 +103,13 @@ fn store_all(image: &[u8], board: &[u64; 164], lines: &[i64; 136], volts: &[i64;
 }
 
 // All stored currents after a sample with these voltages, if every one is within its limit.
-pub fn advance(image: &[u8], board: &[u64; 164], lines: &[i64; 136], volts: &[i64; 16], stored: &mut [i64; 32]) -> Advanced
+pub fn advance(
+    image: &[u8],
+    board: &[u64; 164],
+    lines: &[i64; 136],
+    volts: &[i64; 16],
+    stored: &mut [i64; 32],
+) -> Advanced
     requires { ⌜ Evaluable (now image) (now board) (now lines) (now stored) (now volts) × (length (now stored) ≡ 32) ⌝ }
     ensures { λ r. ⌜ Advancing (now (image .entry)) (now (board .entry)) (now (volts .entry)) (now (stored .entry)) r (now (stored .exit)) ⌝ }
 {

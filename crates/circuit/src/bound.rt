@@ -40,7 +40,11 @@ pub fn least(image: &[u8], board: &[u64; 164], lines: &[i64; 136], e: u64) -> Bo
     let mut most: u64 = 0;
     while i < nodes {
         i += 1;
-        match at_node(node::steepest(image, board, lines, i), node::held(image, board, lines, i), e) {
+        match at_node(
+            node::steepest(image, board, lines, i),
+            node::held(image, board, lines, i),
+            e,
+        ) {
             Bound::Nothing => {
                 return Bound::Nothing;
             }

@@ -37,7 +37,12 @@ fn carried(image: &[u8], board: &[u64; 164], lines: &[i64; 136], j: usize, x: i6
 {
     let value = board::value(board, j);
     if board::kind(board, j) == 4 {
-        return curve::current(image::curve_at(image, value as usize), lines, board::lines_at(board, j), v);
+        return curve::current(
+            image::curve_at(image, value as usize),
+            lines,
+            board::lines_at(board, j),
+            v,
+        );
     }
     signed::minus(signed::times(signed::whole(value), v), x)
 }
@@ -53,7 +58,14 @@ pub fn across(board: &[u64; 164], volts: &[i64; 16], j: usize) -> i64
 }
 
 // The current of element j, from its end p to its end q, at these voltages.
-pub fn flow(image: &[u8], board: &[u64; 164], lines: &[i64; 136], stored: &[i64; 32], volts: &[i64; 16], j: usize) -> i64
+pub fn flow(
+    image: &[u8],
+    board: &[u64; 164],
+    lines: &[i64; 136],
+    stored: &[i64; 32],
+    volts: &[i64; 16],
+    j: usize,
+) -> i64
     requires { ⌜ Evaluable (now image) (now board) (now lines) (now stored) (now volts) × (j < countOn (now board)) ⌝ }
     ensures { λ r. ⌜ r ≡ flowOn (now (image .entry)) (now (board .entry)) (now (stored .entry)) (now (volts .entry)) j ⌝ }
 {
@@ -61,7 +73,15 @@ pub fn flow(image: &[u8], board: &[u64; 164], lines: &[i64; 136], stored: &[i64;
 }
 
 // What leaves the node by element j.
-pub fn leaving(image: &[u8], board: &[u64; 164], lines: &[i64; 136], stored: &[i64; 32], volts: &[i64; 16], j: usize, node: usize) -> i64
+pub fn leaving(
+    image: &[u8],
+    board: &[u64; 164],
+    lines: &[i64; 136],
+    stored: &[i64; 32],
+    volts: &[i64; 16],
+    j: usize,
+    node: usize,
+) -> i64
     requires { ⌜ Evaluable (now image) (now board) (now lines) (now stored) (now volts) × (j < countOn (now board)) ⌝ }
     ensures { λ r. ⌜ r ≡ leaving 1 (branchOn (now (image .entry)) (now (board .entry)) j) (reading (now (stored .entry)) j) (reading (now (volts .entry))) node ⌝ }
 {

@@ -32,7 +32,10 @@ pub fn current(curve: &[u8], lines: &[i64; 136], at: usize, v: i64) -> i64
     ensures { λ r. ⌜ r ≡ curveCurrent (now (curve .entry)) v ⌝ }
 {
     let j = stretch(curve, v);
-    signed::plus(signed::times(signed::whole(image::slope(curve, j)), v), lines[at + j])
+    signed::plus(
+        signed::times(signed::whole(image::slope(curve, j)), v),
+        lines[at + j],
+    )
 }
 
 fn larger(a: u64, b: u64) -> u64

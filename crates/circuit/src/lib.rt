@@ -5,6 +5,6 @@ pub mod board;
 pub mod bound;
 pub mod branch;
 mod curve;
-mod lines;
+pub mod lines;
 pub mod node;
 pub mod opening;

@@ -9,7 +9,14 @@ ghost use Rattle.network.specs.Network.{net, held, heldBy, steepest, steepestBy
 ghost use Rattle.circuit.specs.Board.{countOn, nodesOn, branchOn, networkOn, heldFrom, Ready, Evaluable};
 
 // The sum of all currents that leave the node: the leak's, and then element by element.
-pub fn net_current(image: &[u8], board: &[u64; 164], lines: &[i64; 136], stored: &[i64; 32], volts: &[i64; 16], node: usize) -> i64
+pub fn net_current(
+    image: &[u8],
+    board: &[u64; 164],
+    lines: &[i64; 136],
+    stored: &[i64; 32],
+    volts: &[i64; 16],
+    node: usize,
+) -> i64
     requires { ⌜ Evaluable (now image) (now board) (now lines) (now stored) (now volts) × (node ≤ nodesOn (now board)) ⌝ }
     ensures { λ r. ⌜ r ≡ net 1 (networkOn (now (image .entry)) (now (board .entry))) (reading (now (stored .entry))) (reading (now (volts .entry))) node ⌝ }
 {
@@ -17,7 +24,10 @@ pub fn net_current(image: &[u8], board: &[u64; 164], lines: &[i64; 136], stored:
     let mut sum = signed::times(signed::whole(board::leak(board)), volts[node]);
     let mut j: usize = 0;
     while j < count {
-        sum = signed::plus(sum, branch::leaving(image, board, lines, stored, volts, j, node));
+        sum = signed::plus(
+            sum,
+            branch::leaving(image, board, lines, stored, volts, j, node),
+        );
         j += 1;
     }
     sum

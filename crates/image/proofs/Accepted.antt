@@ -22,7 +22,7 @@ use Rattle.image.specs.Sound.{CurveSound, Sound}
 use Rattle.image.specs.declared.circuit.Circuit.{Circuit}
 use Rattle.image.specs.declared.element.Element.{Element}
 use Rattle.image.proofs.Every.{between-says, every-says}
-use Rattle.image.proofs.Curves.{curve-head}
+use Rattle.image.proofs.Curves.{curve-head, start-after}
 use Rattle.image.proofs.Rules.{TrailerSays, SizesSay, ElementSays, trailer-says, sizes-say, curves-say, element-says, conductance-says}
 use Rattle.image.proofs.Tables.{tabulate-length, tabulate-at, tabulate-past, padded-at, padded-past}
 
@@ -266,6 +266,19 @@ module _ (image : List ℕ) (a : Accepted image) where
     two-ended = ends-differ;
   }
 
+  -- where a curve starts there is one
+  start-held : (k : ℕ) → 0 < getD (c .start) k 0 → CurveThere image (getD (c .start) k 0) × CurveSound (curveBytes image (getD (c .start) k 0))
+  unfolding circuitIn
+  start-held k some =
+      ⊎-elim
+      (λ (h : trailerOf image .curves ≤ k). absurd (omega (arith, padded-past curveLimit (curveStart image) (trailerOf image .curves) k h)))
+      (λ (h : k < trailerOf image .curves). rw (start-at k h) (sizes .curves k h, curve-is k h))
+      (decideN (trailerOf image .curves) k)
+
+  -- curves start after the first element
+  start-some : (k : ℕ) → 0 < curveStart image k
+  start-some k = omega (arith, start-after image (firstCurve (trailerOf image)) k, trailer .some-element)
+
   -- all that later layers need
   pub sound : Sound image c
   unfolding circuitIn
@@ -286,8 +299,13 @@ module _ (image : List ℕ) (a : Accepted image) where
     conductance-some = λ j h d. rw (conductance-at j h) (measured j h (λ k. d (kind-at j h ∙ k)) .0);
     conductance-small = small;
     curve-index = λ j h d. omega (arith, curve-at j h, each j h .curve-there (sym (kind-at j h) ∙ d), trailer .few-curves);
-    curve-there = λ j h d. curve-held j h (sym (kind-at j h) ∙ d) .0;
-    curve-sound = λ j h d. curve-held j h (sym (kind-at j h) ∙ d) .1;
+    curve-starts = λ j h d. rw (start-is j h (sym (kind-at j h) ∙ d)) (start-some (e j .curve));
+    start-there = λ k h. start-held k h .0;
+    start-sound = λ k h. start-held k h .1;
+    past-kind = λ j h. past j h .kind;
+    past-p = λ j h. past j h .p;
+    past-q = λ j h. past j h .q;
+    past-conductance = λ j h. past j h .conductance;
     leak-one = refl;
     means = means;
     in-limits = in-limits;

@@ -25,6 +25,11 @@ pub start-more : (image : List ℕ) (first k : ℕ) → startFrom image first (k
 unfolding startFrom
 start-more image first k = rw add-one
 
+pub start-after : (image : List ℕ) (first k : ℕ) → first ≤ startFrom image first k
+unfolding startFrom
+start-after image first zero = omega arith
+start-after image first (suc k) = omega (arith, start-after image first k)
+
 -- later curves start later
 start-grows : (image : List ℕ) (first k d : ℕ) → startFrom image first k ≤ startFrom image first (k + d)
 start-grows image first k zero =

@@ -39,9 +39,14 @@ pub record Sound (image : List ℕ) (c : Circuit) : Type 0 where
   pub two-ended : (j : ℕ) → j < c .count → getD (c .p) j 0 ≡ getD (c .q) j 0 → ⊥
   pub conductance-some : (j : ℕ) → j < c .count → (getD (c .kind) j 0 ≡ diodeKind → ⊥) → 1 ≤ getD (c .conductance) j 0
   pub conductance-small : (j : ℕ) → getD (c .conductance) j 0 ≤ conductanceLimit
+  pub past-kind : (j : ℕ) → c .count ≤ j → getD (c .kind) j 0 ≡ 0
+  pub past-p : (j : ℕ) → c .count ≤ j → getD (c .p) j 0 ≡ 0
+  pub past-q : (j : ℕ) → c .count ≤ j → getD (c .q) j 0 ≡ 0
+  pub past-conductance : (j : ℕ) → c .count ≤ j → getD (c .conductance) j 0 ≡ 0
+  pub start-there : (k : ℕ) → 0 < getD (c .start) k 0 → CurveThere image (getD (c .start) k 0)
+  pub start-sound : (k : ℕ) → 0 < getD (c .start) k 0 → CurveSound (curveBytes image (getD (c .start) k 0))
   pub curve-index : (j : ℕ) → j < c .count → getD (c .kind) j 0 ≡ diodeKind → getD (c .curve) j 0 < curveLimit
-  pub curve-there : (j : ℕ) → j < c .count → getD (c .kind) j 0 ≡ diodeKind → CurveThere image (startOf c j)
-  pub curve-sound : (j : ℕ) → j < c .count → getD (c .kind) j 0 ≡ diodeKind → CurveSound (curveBytes image (startOf c j))
+  pub curve-starts : (j : ℕ) → j < c .count → getD (c .kind) j 0 ≡ diodeKind → 0 < startOf c j
   pub leak-one : c .leak ≡ 1
   pub means : networkIn image c ≡ networkOf (partsOf image)
   pub in-limits : InLimits (networkIn image c)

@@ -60,13 +60,12 @@ loop-again c =
     let z = reading (l .stored) (l .j) in
     let e : toZ w64 (ofZ w64 z) ≡ z = search needs in
     let y = c .next .result in
-    let f : toZ w64 (ofZ w64 y) ≡ y = search needs in
-    (
+    let f : toZ w64 (ofZ w64 y) ≡ y = search needs in (
       search needs,
       stored-more (s .args .image .now) (s .args .board .now) (s .args .volts .now) (s .args .stored .now) (l .j) (l .stored) _
-      (omega (arith, c .before .before .before .before .count .ensures, few-elements _ _ _ (s .pre .0 .ready), s .pre .1))
-      (f ∙ c .next .ensures ∙ next-is (s .args .image .now) (s .args .board .now) (s .args .volts .now) (s .args .stored .now) (l .j) _ (e ∙ l .inv .1 .old (l .j) (omega arith)))
-      (l .inv .1),
+          (omega (arith, c .before .before .before .before .count .ensures, few-elements _ _ _ (s .pre .0 .ready), s .pre .1))
+          (f ∙ c .next .ensures ∙ next-is (s .args .image .now) (s .args .board .now) (s .args .volts .now) (s .args .stored .now) (l .j) _ (e ∙ l .inv .1 .old (l .j) (omega arith)))
+          (l .inv .1),
     )
 
 returns : tie.Need-returns Inv-loop μ-loop

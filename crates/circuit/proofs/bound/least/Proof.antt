@@ -52,8 +52,7 @@ at-node-requires c κs =
     let s = c .before .before .before .before .before .before .before .before in
     let N = networkOn (s .args .image .now) (s .args .board .now) in
     let i = c .before .before .before .loop .i + 1 in
-    let h = c .held .ensures in
-    (
+    let h = c .held .ensures in (
       omega (arith, h, leak-held N i, s .pre .limits .leaks),
       omega (arith, h, held-fits N (s .pre .limits) i),
       omega (arith, c .before .steepest .ensures, steepest-fits N (s .pre .limits) i),

@@ -52,8 +52,7 @@ lines-at-requires c κs = search needs
 current-requires : tie.Need-current-requires
 current-requires c κs =
     let t = c .before .before in
-    let s = t .before .before .before .before in
-    (
+    let s = t .before .before .before .before in (
       rw (c .before .curve-at .ensures, t .before .before .value .ensures, c .lines-at .ensures) (diode-here t .ready),
       rw (toZ-ofZ (s .fits .v)) (s .pre .3),
     )

@@ -78,8 +78,7 @@ loop-again c =
     let l = c .before .before .before .loop in
     let e : toZ w64 (ofZ w64 (c .plus .result)) ≡ c .plus .result = search needs in
     let f : toZ w64 (ofZ w64 (c .before .step .result)) ≡ c .before .step .result = search needs in
-    let is = e ∙ (rw f at (c .plus .ensures)) in
-    (
+    let is = e ∙ (rw f at (c .plus .ensures)) in (
       omega (arith, c .before .before .loop-test .taken),
       rw is (line-more _ (l .i) (toZ w64 (l .line)) (c .before .step .result) (l .inv .1) (c .before .step .ensures)),
       filled-more _ _ _ (l .i) (l .table) (toZ w64 (l .line)) (omega (arith, s .pre, few _ (s .pre .0), c .before .before .before .before .before .before .before .breakpoint-count .ensures .0, c .before .before .loop-test .taken)) (l .inv .1) (l .inv .2),
