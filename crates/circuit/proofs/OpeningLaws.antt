@@ -5,11 +5,9 @@ use mathlib.Core.List.{List}
 use mathlib.Core.Logic.{⊎-elim}
 use Prim.Native.Nat.{ℕ, suc, _+_, _*_, _-_, _/_, _%_, _≤_, _<_}
 use native.Mathlib.Omega.{arith}
-use native.Mathlib.Numerals.{add-one}
 use lib.Dec.{eqb}
 use lib.IntN.{ℤ, pos}
 use lib.ListN.{length, getD}
-use lib.Signed.{_<ℤ_}
 use borrow.Author.Tests.{ne-eqb, eqb-true, eqb-false}
 use Rattle.units.proofs.Integers.{decideN}
 use Rattle.network.specs.Network.{Law, reading, Branch, InLimits}
@@ -18,30 +16,15 @@ use Rattle.image.specs.Circuit.{diodeKind, lawOf, storeOf, element, networkIn}
 use Rattle.image.specs.Asked.{CurveThere}
 use Rattle.image.specs.Sound.{CurveSound, Sound, startOf}
 use Rattle.image.specs.declared.circuit.Circuit.{Circuit}
-use Rattle.image.proofs.Accepted.{curve-limits}
-use Rattle.image.proofs.Curves.{curve-length, curve-head}
 use Rattle.image.proofs.Tables.{padded-at, padded-past}
 use Rattle.circuit.specs.Line.{Rising, Whole, Drawn}
 use Rattle.circuit.specs.Board.{leakOn, nodesOn, drivenOn, countOn, kindOn, pOn, qOn, valueOn, linesOn, branchOn, networkOn, CurveReady, DiodeReady, Ready}
 use Rattle.circuit.specs.Opening.{Indexed, elementNumber, numberOn, boardOf}
-use Rattle.circuit.proofs.Tables.{breakpoints-length, breakpoint-at}
 
 -- ---- a curve of an accepted image is whole
 
 pub whole : (image : List ℕ) (at : ℕ) → CurveThere image at → CurveSound (curveBytes image at) → Whole (curveBytes image at)
-whole image at there sound = record {
-  length-is = curve-length image at there ∙ ap curveLength (sym (curve-head image at there));
-  limits = curve-limits (curveBytes image at) (rw (curve-head image at there) (there .some)) (rw (curve-head image at there) (there .few)) sound;
-  rising = rising;
-}
-  where
-    c : List ℕ
-    c = curveBytes image at
-
-    rising : Rising (breakpointsOf (curveBytes image at))
-    rising i h =
-        let n = breakpoints-length (curveBytes image at) in
-        rw (breakpoint-at (curveBytes image at) i (omega arith), breakpoint-at (curveBytes image at) (suc i) (omega arith), ← add-one i) (sound .rising i (omega arith))
+whole image at there sound = record { length-is = sound .length-is; limits = sound .limits; rising = sound .rising }
 
 -- ---- the numbers of a board
 
@@ -93,9 +76,7 @@ module _ (c : Circuit) where
 module _ (image : List ℕ) (c : Circuit) (s : Sound image c) where
   -- every diode has one of the eight curves
   pub indexed : Indexed c
-  indexed j h d = ⊎-elim
-      (λ (past : c .count ≤ j). absurd (omega (arith, s .past-kind j past, d)))
-      (λ (l : j < c .count). s .curve-index j l d) (decideN (c .count) j)
+  indexed j h d = s .curve-index j
 
   law-is : (j : ℕ) → j < 32 → lawOf (kindOn (boardOf c) j) (valueOn (boardOf c) j) (curveBytes image (valueOn (boardOf c) j)) ≡ lawOf (getD (c .kind) j 0) (getD (c .conductance) j 0) (curveBytes image (startOf c j))
   law-is j h = rw (kind-is c j h) (go (eqb (getD (c .kind) j 0) diodeKind) refl)

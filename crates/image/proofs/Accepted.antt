@@ -5,24 +5,26 @@ use mathlib.Core.List.{List}
 use mathlib.Core.Logic.{_⊎_, inl, inr, ⊎-elim}
 use Prim.Native.Nat.{ℕ, suc, _-_, _≤_, _<_}
 use native.Mathlib.Omega.{arith}
+use native.Mathlib.Numerals.{add-one}
+use lib.Signed.{_<ℤ_}
 use lib.Dec.{eqb}
 use lib.IntN.{pos}
 use lib.ListN.{length, getD}
 use borrow.Author.Tests.{eqb-true, eqb-false, eq-eqb, ne-eqb}
 use Rattle.units.proofs.Integers.{decideN}
-use Rattle.network.specs.Network.{conductance, curve, branchLimit, conductanceLimit, breakpointCountLimit, CurveInLimits, LawInLimits, InLimits}
-use Rattle.image.specs.Curve.{curveBytes, slopeOf, breakpointOf, slopesOf, breakpointsOf}
+use Rattle.network.specs.Network.{conductance, curve, branchLimit, conductanceLimit, breakpointCountLimit, CurveInLimits, LawInLimits, InLimits, reading}
+use Rattle.image.specs.Curve.{curveBytes, slopeOf, breakpointOf, slopesOf, breakpointsOf, curveLength}
 use Rattle.image.specs.Circuit.{resistorKind, diodeKind, lawOf, element, networkIn}
 use Rattle.image.specs.Conductance.{conductanceBy}
 use Rattle.image.specs.Format.{shortest, longest, curveLimit, Parts, Reading, accepted, rule, lengthFits, trailerOf, trailerFits, sizesFit, firstCurve, curveStart, curvesFit, elementAt, elementsFit, conductanceAt, conductanceFits, conductancesFit, curveOf, partsOf, readingOf}
 use Rattle.image.specs.Asked.{CurveThere}
 use Rattle.image.specs.Meaning.{noElement, noCurve, lawIn, branchIn, networkOf}
 use Rattle.image.specs.Opened.{circuitIn}
-use Rattle.image.specs.Sound.{CurveSound, Sound}
+use Rattle.image.specs.Sound.{CurveSays, CurveSound, Sound}
 use Rattle.image.specs.declared.circuit.Circuit.{Circuit}
 use Rattle.image.specs.declared.element.Element.{Element}
 use Rattle.image.proofs.Every.{between-says, every-says}
-use Rattle.image.proofs.Curves.{curve-head, start-after}
+use Rattle.image.proofs.Curves.{curve-head, curve-length, start-after}
 use Rattle.image.proofs.Rules.{TrailerSays, SizesSay, ElementSays, trailer-says, sizes-say, curves-say, element-says, conductance-says}
 use Rattle.image.proofs.Tables.{tabulate-length, tabulate-at, tabulate-past, padded-at, padded-past}
 
@@ -61,7 +63,7 @@ accepted-says image parts e =
 
 -- ---- curves within their limits, as the network has them
 
-pub curve-limits : (bytes : List ℕ) → 1 ≤ getD bytes 0 0 → getD bytes 0 0 ≤ breakpointCountLimit → CurveSound bytes → CurveInLimits (slopesOf bytes) (breakpointsOf bytes)
+pub curve-limits : (bytes : List ℕ) → 1 ≤ getD bytes 0 0 → getD bytes 0 0 ≤ breakpointCountLimit → CurveSays bytes → CurveInLimits (slopesOf bytes) (breakpointsOf bytes)
 unfolding slopesOf breakpointsOf
 curve-limits bytes low high s =
     let m = getD bytes 0 0 in
@@ -80,6 +82,24 @@ curve-limits bytes low high s =
           (λ (h : m ≤ j). rw (tabulate-past (breakpointOf bytes) m j (pos 0) h) (omega arith))
           (λ (h : j < m). rw (tabulate-at (breakpointOf bytes) m j (pos 0) h) (s .breakpoint j h))
           (decideN m j);
+    }
+
+pub curve-rising : (bytes : List ℕ) → CurveSays bytes → (j : ℕ) → suc j < length (breakpointsOf bytes) → reading (breakpointsOf bytes) j <ℤ reading (breakpointsOf bytes) (suc j)
+unfolding breakpointsOf
+curve-rising bytes s j h =
+    let m = getD bytes 0 0 in
+    let l : suc j < m = omega (arith, tabulate-length (breakpointOf bytes) m) in
+    rw (tabulate-at (breakpointOf bytes) m j (pos 0) (omega arith), tabulate-at (breakpointOf bytes) m (suc j) (pos 0) l) (rw add-one at (s .rising j (omega arith)))
+
+pub curve-sound : (image : List ℕ) (at : ℕ) → CurveThere image at → CurveSays (curveBytes image at) → CurveSound (curveBytes image at)
+curve-sound image at t s =
+    let bytes = curveBytes image at in
+    let head = curve-head image at t in
+    record {
+      length-is = curve-length image at t ∙ ap curveLength (sym head);
+      says = s;
+      limits = curve-limits bytes (rw head (t .some)) (rw head (t .few)) s;
+      rising = curve-rising bytes s;
     }
 
 diode-or : (kind : ℕ) → (kind ≡ diodeKind) ⊎ (kind ≡ diodeKind → ⊥)
@@ -122,7 +142,7 @@ module _ (image : List ℕ) (a : Accepted image) where
   unfolding conductancesFit
   measured j h = conductance-says _ _ (every-says (λ (j : ℕ). conductanceFits (e j .kind) (conductanceAt image (trailerOf image .rate) j)) n j (a .conductances-fit) h)
 
-  curve-is : (k : ℕ) → k < trailerOf image .curves → CurveSound (curveBytes image (curveStart image k))
+  curve-is : (k : ℕ) → k < trailerOf image .curves → CurveSays (curveBytes image (curveStart image k))
   curve-is = curves-say _ _ _ (a .curves-fit)
 
   -- ---- the circuit, field by field
@@ -160,6 +180,7 @@ module _ (image : List ℕ) (a : Accepted image) where
     pub p : getD (c .p) j 0 ≡ 0
     pub q : getD (c .q) j 0 ≡ 0
     pub conductance : getD (c .conductance) j 0 ≡ 0
+    pub curve : getD (c .curve) j 0 ≡ 0
 
   past : (j : ℕ) → n ≤ j → Past j
   unfolding circuitIn
@@ -168,6 +189,7 @@ module _ (image : List ℕ) (a : Accepted image) where
     p = padded-past branchLimit (λ (j : ℕ). e j .p) n j h;
     q = padded-past branchLimit (λ (j : ℕ). e j .q) n j h;
     conductance = padded-past branchLimit (conductanceAt image (trailerOf image .rate)) n j h;
+    curve = padded-past branchLimit (λ (j : ℕ). e j .curve) n j h;
   }
 
   -- the start of a diode's curve
@@ -210,17 +232,14 @@ module _ (image : List ℕ) (a : Accepted image) where
   -- the curve of a diode
   curve-held : (j : ℕ) → j < n → e j .kind ≡ diodeKind → CurveThere image (getD (c .start) (getD (c .curve) j 0) 0) × CurveSound (curveBytes image (getD (c .start) (getD (c .curve) j 0) 0))
   curve-held j h d =
-      rw (start-is j h d)
-      (sizes .curves (e j .curve) (each j h .curve-there d), curve-is (e j .curve) (each j h .curve-there d))
+      let t = sizes .curves (e j .curve) (each j h .curve-there d) in
+      rw (start-is j h d) (t, curve-sound image (curveStart image (e j .curve)) t (curve-is (e j .curve) (each j h .curve-there d)))
 
   law-limits : (j : ℕ) → j < n → LawInLimits (lawOf (getD (c .kind) j 0) (getD (c .conductance) j 0) (curveBytes image (getD (c .start) (getD (c .curve) j 0) 0)))
   law-limits j h =
       rw (kind-at j h, conductance-at j h)
       (⊎-elim
-      (λ (d : e j .kind ≡ diodeKind).
-      let t = curve-held j h d in
-      rw (eq-eqb (e j .kind) diodeKind d)
-      (curve-limits _ (rw (curve-head _ _ (t .0)) (t .0 .some)) (rw (curve-head _ _ (t .0)) (t .0 .few)) (t .1)))
+      (λ (d : e j .kind ≡ diodeKind). rw (eq-eqb (e j .kind) diodeKind d) (curve-held j h d .1 .limits))
       (λ (d : e j .kind ≡ diodeKind → ⊥). rw (ne-eqb (e j .kind) diodeKind d) (measured j h d))
       (diode-or (e j .kind)))
 
@@ -252,6 +271,17 @@ module _ (image : List ℕ) (a : Accepted image) where
       (diode-or (e j .kind)))
       (decideN n j)
 
+  index : (j : ℕ) → getD (c .curve) j 0 < curveLimit
+  index j =
+      ⊎-elim
+      (λ (h : n ≤ j). omega (arith, past j h .curve))
+      (λ (h : j < n).
+      ⊎-elim
+      (λ (d : e j .kind ≡ diodeKind). omega (arith, curve-at j h, each j h .curve-there d, trailer .few-curves))
+      (λ (d : e j .kind ≡ diodeKind → ⊥). omega (arith, curve-at j h, each j h .no-curve d))
+      (diode-or (e j .kind)))
+      (decideN n j)
+
   in-limits : InLimits (networkIn image c)
   unfolding circuitIn element
   in-limits = record {
@@ -272,7 +302,7 @@ module _ (image : List ℕ) (a : Accepted image) where
   start-held k some =
       ⊎-elim
       (λ (h : trailerOf image .curves ≤ k). absurd (omega (arith, padded-past curveLimit (curveStart image) (trailerOf image .curves) k h)))
-      (λ (h : k < trailerOf image .curves). rw (start-at k h) (sizes .curves k h, curve-is k h))
+      (λ (h : k < trailerOf image .curves). let t = sizes .curves k h in rw (start-at k h) (t, curve-sound image (curveStart image k) t (curve-is k h)))
       (decideN (trailerOf image .curves) k)
 
   -- curves start after the first element
@@ -298,7 +328,7 @@ module _ (image : List ℕ) (a : Accepted image) where
     two-ended = ends-differ;
     conductance-some = λ j h d. rw (conductance-at j h) (measured j h (λ k. d (kind-at j h ∙ k)) .0);
     conductance-small = small;
-    curve-index = λ j h d. omega (arith, curve-at j h, each j h .curve-there (sym (kind-at j h) ∙ d), trailer .few-curves);
+    curve-index = index;
     curve-starts = λ j h d. rw (start-is j h (sym (kind-at j h) ∙ d)) (start-some (e j .curve));
     start-there = λ k h. start-held k h .0;
     start-sound = λ k h. start-held k h .1;

@@ -14,7 +14,7 @@ use Rattle.image.specs.Curve.{curveBytes, slopeOf, breakpointOf}
 use Rattle.image.specs.Circuit.{resistorKind, diodeKind}
 use Rattle.image.specs.Format.{trailerSize, elementSize, curveLimit, lowestRate, highestRate, version1, trailerFits, sizesFit, splits, firstCurve, startFrom, slopeFits, breakpointFits, rises, curveFits, curvesFit, elementFits, conductanceFits}
 use Rattle.image.specs.Asked.{CurveThere}
-use Rattle.image.specs.Sound.{CurveSound}
+use Rattle.image.specs.Sound.{CurveSays}
 use Rattle.image.specs.declared.element.Element.{Element}
 use Rattle.image.specs.declared.trailer.Trailer.{Trailer}
 use Rattle.image.proofs.Every.{both, between-says, every-says}
@@ -79,7 +79,7 @@ sizes-say image t e =
     }
 
 -- rule 4
-pub curve-says : (bytes : List ℕ) → curveFits bytes ≡ true → CurveSound bytes
+pub curve-says : (bytes : List ℕ) → curveFits bytes ≡ true → CurveSays bytes
 unfolding curveFits
 curve-says bytes e =
     let m = getD bytes 0 0 in
@@ -93,7 +93,7 @@ curve-says bytes e =
       rising = λ j h. record { lt = rw (every-says (rises bytes) (m - 1) j (a .1) (omega arith)) tt };
     }
 
-pub curves-say : (image : List ℕ) (first count : ℕ) → curvesFit image first count ≡ true → (k : ℕ) → k < count → CurveSound (curveBytes image (startFrom image first k))
+pub curves-say : (image : List ℕ) (first count : ℕ) → curvesFit image first count ≡ true → (k : ℕ) → k < count → CurveSays (curveBytes image (startFrom image first k))
 unfolding curvesFit
 curves-say image first count e k h = curve-says _ (every-says (λ (k : ℕ). curveFits (curveBytes image (startFrom image first k))) count k e h)
 
@@ -104,6 +104,7 @@ pub record ElementSays (nodes curves : ℕ) (e : Element) : Type 0 where
   pub q-there : e .q ≤ nodes
   pub two-ended : e .p ≡ e .q → ⊥
   pub curve-there : e .kind ≡ diodeKind → e .curve < curves
+  pub no-curve : (e .kind ≡ diodeKind → ⊥) → e .curve ≡ 0
   pub valued : (e .kind ≡ diodeKind → ⊥) → 1 ≤ e .value
 
 pub element-says : (nodes curves : ℕ) (e : Element) → elementFits nodes curves e ≡ true → ElementSays nodes curves e
@@ -122,6 +123,7 @@ element-says nodes curves e t =
       q-there = leb-true (e .q) nodes (c .1);
       two-ended = eqb-false (e .p) (e .q) (not-true (eqb (e .p) (e .q)) (b .1));
       curve-there = λ k. ltb-true (e .curve) curves (both {a = ltb (e .curve) curves} {b = eqb (e .value) 0} (yes kind diode other (eq-eqb (e .kind) diodeKind k) (a .1)) .0);
+      no-curve = λ k. eqb-true (e .curve) 0 (both {a = eqb (e .curve) 0} {b = leb 1 (e .value)} (no kind diode other (ne-eqb (e .kind) diodeKind k) (a .1)) .0);
       valued = λ k. leb-true 1 (e .value) (both {a = eqb (e .curve) 0} {b = leb 1 (e .value)} (no kind diode other (ne-eqb (e .kind) diodeKind k) (a .1)) .1);
     }
   where

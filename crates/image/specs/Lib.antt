@@ -2,6 +2,7 @@ pub mod Asked
 pub mod Circuit
 pub mod Conductance
 pub mod Curve
+pub mod Examples
 pub mod Format
 pub mod Meaning
 pub mod Opened

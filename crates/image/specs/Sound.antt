@@ -1,23 +1,30 @@
 -- What later layers may take for granted of an accepted image and the circuit read from it. Assumes nothing.
 use mathlib.Core.Path.{_≡_}
 use mathlib.Core.List.{List}
-use Prim.Native.Nat.{ℕ, _+_, _≤_, _<_}
+use Prim.Native.Nat.{ℕ, suc, _+_, _≤_, _<_}
 use lib.IntN.{natAbs}
 use lib.ListN.{length, getD}
 use lib.Signed.{_<ℤ_}
-use Rattle.network.specs.Network.{nodeLimit, branchLimit, conductanceLimit, breakpointLimit, InLimits}
-use Rattle.image.specs.Curve.{curveBytes, slopeOf, breakpointOf}
+use Rattle.network.specs.Network.{nodeLimit, branchLimit, conductanceLimit, breakpointLimit, reading, CurveInLimits, InLimits}
+use Rattle.image.specs.Curve.{curveLength, curveBytes, slopeOf, breakpointOf, slopesOf, breakpointsOf}
 use Rattle.image.specs.Circuit.{resistorKind, diodeKind, networkIn}
 use Rattle.image.specs.Format.{curveLimit, longest, partsOf}
 use Rattle.image.specs.Asked.{CurveThere}
 use Rattle.image.specs.Meaning.{networkOf}
 use Rattle.image.specs.declared.circuit.Circuit.{Circuit}
 
--- a curve's bytes are within their limits
-pub record CurveSound (bytes : List ℕ) : Type 0 where
+-- the numbers of a curve's bytes are within their limits
+pub record CurveSays (bytes : List ℕ) : Type 0 where
   pub slope : (j : ℕ) → j < getD bytes 0 0 + 1 → slopeOf bytes j ≤ conductanceLimit
   pub breakpoint : (j : ℕ) → j < getD bytes 0 0 → natAbs (breakpointOf bytes j) ≤ breakpointLimit
   pub rising : (j : ℕ) → j + 1 < getD bytes 0 0 → breakpointOf bytes j <ℤ breakpointOf bytes (j + 1)
+
+-- a curve's bytes are whole, and so is the curve of them
+pub record CurveSound (bytes : List ℕ) : Type 0 where
+  pub length-is : length bytes ≡ curveLength (getD bytes 0 0)
+  pub says : CurveSays bytes
+  pub limits : CurveInLimits (slopesOf bytes) (breakpointsOf bytes)
+  pub rising : (j : ℕ) → suc j < length (breakpointsOf bytes) → reading (breakpointsOf bytes) j <ℤ reading (breakpointsOf bytes) (suc j)
 
 -- where the curve of element j starts
 abbrev pub startOf : Circuit → ℕ → ℕ
@@ -45,7 +52,7 @@ pub record Sound (image : List ℕ) (c : Circuit) : Type 0 where
   pub past-conductance : (j : ℕ) → c .count ≤ j → getD (c .conductance) j 0 ≡ 0
   pub start-there : (k : ℕ) → 0 < getD (c .start) k 0 → CurveThere image (getD (c .start) k 0)
   pub start-sound : (k : ℕ) → 0 < getD (c .start) k 0 → CurveSound (curveBytes image (getD (c .start) k 0))
-  pub curve-index : (j : ℕ) → j < c .count → getD (c .kind) j 0 ≡ diodeKind → getD (c .curve) j 0 < curveLimit
+  pub curve-index : (j : ℕ) → getD (c .curve) j 0 < curveLimit
   pub curve-starts : (j : ℕ) → j < c .count → getD (c .kind) j 0 ≡ diodeKind → 0 < startOf c j
   pub leak-one : c .leak ≡ 1
   pub means : networkIn image c ≡ networkOf (partsOf image)
