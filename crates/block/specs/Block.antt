@@ -1,6 +1,7 @@
 -- What comes back of a block: document 01, "What comes back". N is the network that the image means, x the stored currents that are
 -- given, 32 of them, d j i the drive of node i + 1 in sample j. Assumes nothing.
 use mathlib.Core.Path.{_≡_}
+use mathlib.Core.Bool.{Bool, true, false}
 use mathlib.Core.List.{List}
 use Prim.Native.Nat.{ℕ, zero, suc, _+_, _*_, _/_, _≤_, _<_}
 use lib.IntN.{ℤ, pos}
@@ -13,6 +14,7 @@ use Rattle.network.specs.Network.{nothing, Network, reading, storedLimit}
 use Rattle.network.specs.Sample.{Outcome, accepted, numberOf, Gives}
 use Rattle.image.specs.Format.{Parts, Reading, readingOf}
 use Rattle.image.specs.Format as Format
+use Rattle.image.specs.Circuit.{storeOf}
 use Rattle.image.specs.Meaning.{networkOf}
 
 -- how many samples a block has at the most, and how many places for stored currents there are
@@ -50,3 +52,15 @@ pub data Plays (image : List ℕ) (x : List ℤ) (n : ℕ) (drives outputs : Lis
   lengths-refused : {parts : Parts} → readingOf image ≡ Format.accepted parts → StateLegal (networkOf parts) x → (LengthsFit (parts .driven) n (length drives) (length outputs) → ⊥) → Plays image x n drives outputs 8 0 x outputs
   sample-refused : {parts : Parts} {j : ℕ} {y : List ℤ} {o : List ℕ} (r : Outcome) → readingOf image ≡ Format.accepted parts → StateLegal (networkOf parts) x → LengthsFit (parts .driven) n (length drives) (length outputs) → j < n → Run (networkOf parts) (parts .output) (driveAt drives (parts .driven)) x outputs j y o → Gives (networkOf parts) (reading y) (driveAt drives (parts .driven) j) r → 0 < numberOf r → Plays image x n drives outputs (numberOf r) j y o
   done : {parts : Parts} {y : List ℤ} {o : List ℕ} → readingOf image ≡ Format.accepted parts → StateLegal (networkOf parts) x → LengthsFit (parts .driven) n (length drives) (length outputs) → Run (networkOf parts) (parts .output) (driveAt drives (parts .driven)) x outputs n y o → Plays image x n drives outputs 0 n y o
+
+-- ---- what the code's tests say
+
+-- a test that decides a fact
+abbrev pub Decides : Bool → Type 0 → Type 0
+Decides true fact = fact
+Decides false fact = fact → ⊥
+
+-- a stored current that may stand at an element of a kind
+pub record LegalAt (kind : ℕ) (x : ℤ) : Type 0 where
+  pub kept : Within storedLimit x
+  pub none : storeOf kind ≡ nothing → x ≡ pos 0
