@@ -1,2 +1,3 @@
+pub mod DriveLaws
 pub mod OneOutcome
 pub mod StateLaws

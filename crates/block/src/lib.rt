@@ -1,3 +1,4 @@
 // The block: any image, stored currents, lengths and samples get an answer or document 01's number.
+mod drives;
 mod lengths;
 mod state;
