@@ -1,0 +1,63 @@
+/* Krtovalin: circuit modelling in whole microvolts, proved.
+ *
+ * One function. It keeps no memory of its own: no heap, no globals, no locks, so that it may be called from any number of
+ * threads or interrupt levels at once, each with its own buffers. No pointer needs any alignment. The buffers must not overlap,
+ * except that image and drives, which are only read, may. A pointer whose length is 0 may not be null: pass any valid address.
+ */
+#ifndef KRTOVALIN_H
+#define KRTOVALIN_H
+
+#include <stddef.h>
+#include <stdint.h>
+
+#ifdef __cplusplus
+extern "C" {
+#endif
+
+/* The length of a state: 32 stored currents, an int64_t each, little-endian, in femtoamperes. A fresh state is all zeros. */
+#define KRTOVALIN_STATE 256
+
+/* The most samples a block may have. */
+#define KRTOVALIN_SAMPLES 4096
+
+/* What an answer says: its number and its count of samples written. */
+#define KRTOVALIN_NUMBER(answer) ((unsigned)((answer) >> 16))
+#define KRTOVALIN_COUNT(answer) ((unsigned)((answer) & 0xffff))
+
+/* Plays a block of n samples of the circuit in `image`.
+ *
+ * drives   n times d int32_t, little-endian, in microvolts: sample by sample, nodes 1 to d in turn (d is the image's driven
+ *          count). An incomplete last four and surplus bytes are ignored.
+ * outputs  n int32_t, little-endian: the output node's voltage in microvolts. Bytes past the count keep their contents.
+ * state    exactly KRTOVALIN_STATE bytes, carried from one block to the next. It is written only when the count is above 0.
+ *
+ * Returns number x 65,536 + count:
+ *
+ *    0  all n samples were played; the count is n
+ *    1  the image is shorter than 24 or longer than 1,360 bytes
+ *    2  a field of the image's trailer other than its distances is outside its range
+ *    3  a distance, a length or a curve's size does not fit exactly
+ *    4  a curve's padding, slope or breakpoint
+ *    5  an element's field
+ *    6  a conductance outside its limit
+ *    7  the state: another length, a stored current beyond its limit, or one where none can be
+ *    8  n above 4,096, too few drives, or too few output places
+ *    9  a drive of the sample is beyond 16,777,216 microvolts either way
+ *   10  the rail: no voltages in range, or a free node at the top of the range
+ *   11  a new stored current beyond its limit
+ *
+ * The lowest number that applies is given. With 1 to 8 the count is 0 and nothing is written. With 9 to 11 the count is the number of
+ * samples before the refused one: those are in outputs, and state is the state after them. n may be 0, and is then accepted if
+ * everything else is.
+ */
+uint64_t krtovalin_block(const uint8_t *image, size_t image_len,
+                         uint8_t *state, size_t state_len,
+                         uint64_t n,
+                         const uint8_t *drives, size_t drives_len,
+                         uint8_t *outputs, size_t outputs_len);
+
+#ifdef __cplusplus
+}
+#endif
+
+#endif
