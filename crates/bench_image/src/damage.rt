@@ -75,30 +75,22 @@ fn write(count: &[u64], sum: u64) {
     show::text(b"\n");
 }
 
-// `times` damaged copies of a good image.
-pub fn copies(label: &[u8], i: Image, times: usize) {
-    show::text(label);
-    let mut count = [0; 8];
-    let mut sum: u64 = 0;
-    let mut row: u64 = 1;
-    for k in 0..times {
-        let n = show::number(damaged(i, row));
-        let at = (n % 8) as usize;
-        count[at] = wrapping_add_u64(count[at], 1);
-        sum = checksum(sum, n);
-        row = later(row);
+// A damaged copy of a good image, or noise.
+fn tried(i: Image, any: bool, x: u64) -> Image {
+    if any {
+        return noise(x);
     }
-    write(&count, sum);
+    damaged(i, x)
 }
 
-// `times` images that are noise.
-pub fn noises(label: &[u8], times: usize) {
+// `times` of them.
+pub fn tries(label: &[u8], i: Image, any: bool, times: usize) {
     show::text(label);
     let mut count = [0; 8];
     let mut sum: u64 = 0;
     let mut row: u64 = 1;
     for k in 0..times {
-        let n = show::number(noise(row));
+        let n = show::number(tried(i, any, row));
         let at = (n % 8) as usize;
         count[at] = wrapping_add_u64(count[at], 1);
         sum = checksum(sum, n);

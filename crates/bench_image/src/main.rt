@@ -46,10 +46,10 @@ fn splits() {
 
 // Pseudo-random damage, and noise.
 fn damages() {
-    damage::copies(b"damaged examples:", example(), 1000);
-    damage::copies(b"damaged mixed:", mixed(), 2000);
-    damage::copies(b"damaged largest:", largest(), 100);
-    damage::noises(b"noise:", 1000);
+    damage::tries(b"damaged examples:", example(), false, 1000);
+    damage::tries(b"damaged mixed:", mixed(), false, 2000);
+    damage::tries(b"damaged largest:", largest(), false, 100);
+    damage::tries(b"noise:", example(), true, 1000);
 }
 
 fn main() {

@@ -3,18 +3,14 @@ use mathlib.Core.Path.{_≡_, refl, sym, _∙_, ap}
 use mathlib.Core.List.{List}
 use Prim.Native.Nat.{ℕ, zero, suc}
 use Rattle.image.specs.Format.{Parts, Reading, accepted, refused, partsOf, readingOf}
-use Rattle.image.specs.Opened.{numberOf, readingBy, circuitIn, circuitOf, Read}
+use Rattle.image.specs.Opened.{numberOf, numberIn, readingBy, circuitIn, circuitOf, Read}
 use Rattle.image.specs.Sound.{Sound}
 use Rattle.image.specs.declared.reader.Answer.{Answer}
 use Rattle.image.specs.declared.reader.Answer.the-variants.{Accepted, Length, Trailer, Sizes, Curves, Elements, Conductances}
 use Rattle.image.specs.declared.reader.Opened.{Opened}
 use Rattle.image.proofs.Accepted.{accepted-says, sound}
 
--- the number of a reading, and the answer of a number
-abbrev numberIn : Reading → ℕ
-numberIn (accepted parts) = 0
-numberIn (refused n) = n
-
+-- a number is the one that it was, and so is an answer
 number-back : (parts : Parts) (n : ℕ) → numberIn (readingBy parts n) ≡ n
 number-back parts zero = refl
 number-back parts (suc n) = refl
@@ -41,11 +37,16 @@ answer-back Conductances = refl
 pub number-one : (a b : Answer) → numberOf a ≡ numberOf b → a ≡ b
 number-one a b e = sym (answer-back a) ∙ ap answerFor e ∙ answer-back b
 
+-- the answer's number is the reading's
+pub read-number : (image : List ℕ) (r : Opened) → Read image r → numberOf (r .answer) ≡ numberIn (readingOf image)
+read-number image r p = sym (number-back (partsOf image) (numberOf (r .answer))) ∙ ap numberIn (p .reading)
+
 -- the promise admits one outcome
 pub read-once : (image : List ℕ) (r s : Opened) → Read image r → Read image s → r ≡ s
 read-once image r s p q =
-    let n : numberOf (r .answer) ≡ numberOf (s .answer) = sym (number-back (partsOf image) (numberOf (r .answer))) ∙ ap numberIn (p .reading ∙ sym (q .reading)) ∙ number-back (partsOf image) (numberOf (s .answer)) in
-    both r s (number-one (r .answer) (s .answer) n) (p .circuit ∙ sym (q .circuit))
+    both r s
+    (number-one (r .answer) (s .answer) (read-number image r p ∙ sym (read-number image s q)))
+    (p .circuit ∙ sym (q .circuit))
   where
     both : (r s : Opened) → r .answer ≡ s .answer → r .circuit ≡ s .circuit → r ≡ s
     both r s a c = rw (a, c)

@@ -24,7 +24,11 @@ numberOf Curves = 4
 numberOf Elements = 5
 numberOf Conductances = 6
 
--- a number as a reading, the parts being those of the image
+-- document 01's number of a reading, and a number as a reading, the parts being those of the image
+abbrev pub numberIn : Reading → ℕ
+numberIn (accepted parts) = 0
+numberIn (refused n) = n
+
 abbrev pub readingBy : Parts → ℕ → Reading
 readingBy parts zero = accepted parts
 readingBy parts (suc n) = refused (suc n)

@@ -4,12 +4,11 @@ use super::limits;
 use units::bytes;
 use units::signed;
 ghost use mathlib.Core.Path.{_≡_};
-ghost use mathlib.Core.Bool.{true};
-ghost use Prim.Native.Nat.{ℕ, _+_, _*_, _-_, _≤_, _<_};
+ghost use Prim.Native.Nat.{ℕ, _+_, _*_, _≤_, _<_};
 ghost use lib.ListN.{length, getD};
 ghost use Rattle.image.specs.Tests.{every};
-ghost use Rattle.image.specs.Curve.{curveBytes, curveLength, breakpointsAt, slopeOf, breakpointOf};
-ghost use Rattle.image.specs.Format.{startFrom, splits, slopeFits, breakpointFits, rises, curveFits, curvesFit};
+ghost use Rattle.image.specs.Curve.{curveBytes, curveLength, slopeOf, breakpointOf};
+ghost use Rattle.image.specs.Format.{curveLimit, startFrom, splits, slopeFits, breakpointFits, rises, curveFits, curvesFit};
 ghost use Rattle.image.specs.Asked.{CurveThere};
 ghost use Rattle.image.specs.Opened.{padded};
 
@@ -81,8 +80,8 @@ pub fn split(image: &[u8], first: usize, count: usize, end: usize) -> bool
 
 // Where each of those curves starts.
 pub fn starts(image: &[u8], first: usize, count: usize) -> [usize; 8]
-    requires { ⌜ (count ≤ 8) × ((k : ℕ) → k < count → startFrom (now image) first k < length (now image)) ⌝ }
-    ensures { λ r. ⌜ r ≡ padded 8 (startFrom (now (image .entry)) first) count ⌝ }
+    requires { ⌜ (count ≤ curveLimit) × ((k : ℕ) → k < count → startFrom (now image) first k < length (now image)) ⌝ }
+    ensures { λ r. ⌜ r ≡ padded curveLimit (startFrom (now (image .entry)) first) count ⌝ }
 {
     let mut s = [0; 8];
     let mut at = first;

@@ -3,11 +3,11 @@ use super::field;
 use super::limits;
 use units::bytes;
 ghost use mathlib.Core.Path.{_≡_};
-ghost use mathlib.Core.Bool.{true};
 ghost use Prim.Native.Nat.{ℕ, _+_, _*_, _^_, _≤_, _<_};
 ghost use lib.ListN.{length, getD};
+ghost use Rattle.network.specs.Network.{branchLimit};
 ghost use Rattle.image.specs.Tests.{every};
-ghost use Rattle.image.specs.Format.{elementAt, elementFits};
+ghost use Rattle.image.specs.Format.{elementSize, elementAt, elementFits};
 ghost use Rattle.image.specs.Opened.{padded};
 
 pub struct Element {
@@ -20,7 +20,7 @@ pub struct Element {
 }
 
 pub fn element_at(image: &[u8], j: usize) -> Element
-    requires { ⌜ 8 * j + 8 ≤ length (now image) ⌝ }
+    requires { ⌜ elementSize * j + elementSize ≤ length (now image) ⌝ }
     ensures { λ r. ⌜ (r ≡ elementAt (now (image .entry)) j) × (r .value < 2 ^ 32) ⌝ }
 {
     let at = limits::ELEMENT * j;
@@ -49,7 +49,7 @@ fn element_fits(e: Element, nodes: usize, curves: usize) -> bool
 
 // Whether those of the first n elements are.
 pub fn elements_fit(image: &[u8], n: usize, nodes: usize, curves: usize) -> bool
-    requires { ⌜ 8 * n ≤ length (now image) ⌝ }
+    requires { ⌜ elementSize * n ≤ length (now image) ⌝ }
     ensures { λ r. ⌜ r ≡ every (λ (j : ℕ). elementFits nodes curves (elementAt (now (image .entry)) j)) n ⌝ }
 {
     let mut j: usize = 0;
@@ -64,8 +64,8 @@ pub fn elements_fit(image: &[u8], n: usize, nodes: usize, curves: usize) -> bool
 
 // The kinds of the first n elements.
 pub fn kinds(image: &[u8], n: usize) -> [u8; 32]
-    requires { ⌜ (n ≤ 32) × (8 * n ≤ length (now image)) ⌝ }
-    ensures { λ r. ⌜ r ≡ padded 32 (λ (j : ℕ). elementAt (now (image .entry)) j .kind) n ⌝ }
+    requires { ⌜ (n ≤ branchLimit) × (elementSize * n ≤ length (now image)) ⌝ }
+    ensures { λ r. ⌜ r ≡ padded branchLimit (λ (j : ℕ). elementAt (now (image .entry)) j .kind) n ⌝ }
 {
     let mut a = [0; 32];
     let mut j: usize = 0;
@@ -78,8 +78,8 @@ pub fn kinds(image: &[u8], n: usize) -> [u8; 32]
 
 // The byte at one place of each of them: a node, or a curve's index.
 pub fn column(image: &[u8], n: usize, place: usize) -> [usize; 32]
-    requires { ⌜ (n ≤ 32) × ((8 * n ≤ length (now image)) × (place < 8)) ⌝ }
-    ensures { λ r. ⌜ r ≡ padded 32 (λ (j : ℕ). getD (now (image .entry)) (8 * j + place) 0) n ⌝ }
+    requires { ⌜ (n ≤ branchLimit) × ((elementSize * n ≤ length (now image)) × (place < elementSize)) ⌝ }
+    ensures { λ r. ⌜ r ≡ padded branchLimit (λ (j : ℕ). getD (now (image .entry)) (elementSize * j + place) 0) n ⌝ }
 {
     let mut a = [0; 32];
     let mut j: usize = 0;

@@ -1,12 +1,10 @@
-// A field of the image, and the range test that most fields have.
+// Fields of the image that are counts or places: one byte, or two.
 use units::bytes;
 ghost use mathlib.Core.Path.{_≡_};
-ghost use Prim.Native.Nat.{ℕ, _+_, _*_, _^_, _≤_, _<_};
+ghost use Prim.Native.Nat.{_+_, _≤_, _<_};
 ghost use lib.ListN.{length, getD};
-ghost use Rattle.units.specs.Bytes.{Holds, littleEndian};
-ghost use Rattle.image.specs.Tests.{between};
+ghost use Rattle.units.specs.Bytes.{Holds};
 
-// One byte, as a count or a place.
 pub fn byte(s: &[u8], at: usize) -> usize
     requires { ⌜ at < length (now s) ⌝ }
     ensures { λ r. ⌜ (r ≡ getD (now (s .entry)) at 0) × (r < 256) ⌝ }
@@ -14,17 +12,10 @@ pub fn byte(s: &[u8], at: usize) -> usize
     s[at] as usize
 }
 
-// Two bytes, the lowest first.
+// The lowest byte first.
 pub fn short(s: &[u8], at: usize) -> usize
     requires { ⌜ at + 2 ≤ length (now s) ⌝ }
     ensures { λ r. ⌜ Holds 2 (now (s .entry)) at r ⌝ }
 {
     bytes::u16_at(s, at) as usize
-}
-
-// Whether n lies from low to high.
-pub fn between(n: u64, low: u64, high: u64) -> bool
-    ensures { λ r. ⌜ r ≡ between low high n ⌝ }
-{
-    (low <= n) & (n <= high)
 }

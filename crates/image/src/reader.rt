@@ -7,10 +7,9 @@ use super::limits;
 use super::trailer;
 use super::trailer::Trailer;
 ghost use mathlib.Core.Path.{_≡_};
-ghost use mathlib.Core.Bool.{true};
-ghost use Prim.Native.Nat.{ℕ, _+_, _*_, _-_, _≤_, _<_};
+ghost use Prim.Native.Nat.{_≤_, _<_};
 ghost use lib.ListN.{length};
-ghost use Rattle.image.specs.Format.{lengthFits, sizesFit};
+ghost use Rattle.image.specs.Format.{trailerSize, lengthFits, sizesFit};
 ghost use Rattle.image.specs.Opened.{circuitIn, noCircuit, Read};
 ghost use Rattle.image.specs.Asked.{Laid};
 ghost use Rattle.image.specs.Meaning.{leakOf};
@@ -40,7 +39,7 @@ fn length_fits(n: usize) -> bool
 
 // Whether the distances are right and the curves fill the bytes up to the trailer.
 fn sizes_fit(image: &[u8], t: Trailer) -> bool
-    requires { ⌜ (16 ≤ length (now image)) × ((t .elements < 256) × (t .«curve_distance» < 65536)) ⌝ }
+    requires { ⌜ (trailerSize ≤ length (now image)) × ((t .elements < 256) × (t .«curve_distance» < 65536)) ⌝ }
     ensures { λ r. ⌜ r ≡ sizesFit (now (image .entry)) t ⌝ }
 {
     let before = image.len() - limits::TRAILER;

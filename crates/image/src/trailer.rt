@@ -3,9 +3,9 @@ use super::field;
 use super::limits;
 use units::bytes;
 ghost use mathlib.Core.Path.{_≡_};
-ghost use Prim.Native.Nat.{ℕ, _+_, _-_, _≤_, _<_};
+ghost use Prim.Native.Nat.{_+_, _≤_, _<_};
 ghost use lib.ListN.{length};
-ghost use Rattle.image.specs.Format.{trailerAt, trailerFits};
+ghost use Rattle.image.specs.Format.{trailerSize, trailerAt, trailerFits};
 
 pub struct Trailer {
     // From the trailer's first byte back to the first element, and to the first curve byte.
@@ -23,7 +23,7 @@ pub struct Trailer {
 
 // The trailer that starts at a place of the image.
 pub fn trailer_at(image: &[u8], at: usize) -> Trailer
-    requires { ⌜ at + 16 ≤ length (now image) ⌝ }
+    requires { ⌜ at + trailerSize ≤ length (now image) ⌝ }
     ensures { λ r. ⌜ (r ≡ trailerAt (now (image .entry)) at) × (r .«curve_distance» < 65536) ⌝ }
 {
     Trailer {

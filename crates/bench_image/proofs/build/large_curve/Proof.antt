@@ -1,5 +1,5 @@
+-- `bench_image::build::large_curve` is safe and ends. Assumes nothing.
 use Prim.Native.Nat.{_-_, _≤_}
-use lib.ListN.{length}
 use borrow.Author.Needs.{needs}
 use Rattle.bench_image.proofs.build.large_curve.Statement.{statement}
 use Rattle.bench_image.proofs.build.large_curve.Tie as tie

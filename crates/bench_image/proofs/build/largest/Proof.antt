@@ -1,6 +1,5 @@
-use mathlib.Core.Path.{_≡_}
+-- `bench_image::build::largest` is safe and ends. Assumes nothing.
 use Prim.Native.Nat.{_-_, _≤_}
-use lib.ListN.{length}
 use borrow.Author.Needs.{needs}
 use Rattle.bench_image.proofs.build.largest.Statement.{statement}
 use Rattle.bench_image.proofs.build.largest.Tie as tie

@@ -1,3 +1,4 @@
+-- `bench_image::cases::run` is safe and ends. Assumes nothing.
 use Prim.Native.Nat.{_-_, _≤_}
 use borrow.Author.Needs.{needs}
 use Rattle.bench_image.proofs.cases.run.Statement.{statement}

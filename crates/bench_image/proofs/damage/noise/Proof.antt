@@ -1,5 +1,5 @@
+-- `bench_image::damage::noise` is safe and ends. Assumes nothing.
 use Prim.Native.Nat.{_-_, _≤_}
-use lib.ListN.{length}
 use borrow.Author.Needs.{needs}
 use Rattle.bench_image.proofs.damage.noise.Statement.{statement}
 use Rattle.bench_image.proofs.damage.noise.Tie as tie

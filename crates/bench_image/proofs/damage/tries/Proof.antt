@@ -1,15 +1,16 @@
+-- `bench_image::damage::tries` is safe and ends. Assumes nothing.
 use mathlib.Core.Path.{_≡_}
 use Prim.Native.Nat.{_-_, _≤_}
 use lib.ListN.{length}
 use borrow.Author.Needs.{needs}
-use Rattle.bench_image.proofs.damage.noises.Statement.{statement}
-use Rattle.bench_image.proofs.damage.noises.Tie as tie
+use Rattle.bench_image.proofs.damage.tries.Statement.{statement}
+use Rattle.bench_image.proofs.damage.tries.Tie as tie
 
 abbrev Inv-loop : tie.InvT-loop
-Inv-loop label times count₀ sum₀ row₀ k₀ count sum row k = (k ≤ times) × (8 ≡ length count)
+Inv-loop label i any times count₀ sum₀ row₀ k₀ count sum row k = (k ≤ times) × (8 ≡ length count)
 
 abbrev μ-loop : tie.MeasureT-loop
-μ-loop label times count₀ sum₀ row₀ k₀ count sum row k = times - k
+μ-loop label i any times count₀ sum₀ row₀ k₀ count sum row k = times - k
 
 text-requires : tie.Need-text-requires Inv-loop μ-loop
 text-requires c κs = search needs
@@ -17,8 +18,8 @@ text-requires c κs = search needs
 loop-holds : tie.Need-loop-holds Inv-loop μ-loop
 loop-holds c = search needs
 
-noise-requires : tie.Need-noise-requires Inv-loop μ-loop
-noise-requires c κs = search needs
+tried-requires : tie.Need-tried-requires Inv-loop μ-loop
+tried-requires c κs = search needs
 
 number-requires : tie.Need-number-requires Inv-loop μ-loop
 number-requires c κs = search needs
@@ -62,15 +63,15 @@ write-requires c κs = search needs
 returns : tie.Need-returns Inv-loop μ-loop
 returns c = search needs
 
-pub noises-spec : {M : Type 1} → statement M
-noises-spec =
+pub tries-spec : {M : Type 1} → statement M
+tries-spec =
     tie.close
     (tie.spec
     Inv-loop
     μ-loop
     text-requires
     loop-holds
-    noise-requires
+    tried-requires
     number-requires
     mul-wrapping-add-u64
     array-read-wrapping-add-u64
