@@ -1,3 +1,6 @@
+pub mod CallLaws
 pub mod DriveLaws
 pub mod OneOutcome
+pub mod PlayLaws
+pub mod SampleLaws
 pub mod StateLaws

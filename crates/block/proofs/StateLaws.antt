@@ -29,6 +29,13 @@ pub decides : {P : Type 0} (t : Bool) → (t ≡ true → P) → (t ≡ false �
 decides true a b = a refl
 decides false a b = b refl
 
+-- .. and that is all it says
+pub if-passed : {P : Type 0} (t : Bool) → Decides t P → t ≡ true → P
+if-passed t d e = rw e at d
+
+pub if-failed : {P : Type 0} (t : Bool) → Decides t P → t ≡ false → P → ⊥
+if-failed t d e = rw e at d
+
 -- ---- stored currents from bytes, one after the other
 
 -- the first n of the stored currents in the state's bytes

@@ -2,7 +2,7 @@
 use mathlib.Core.Path.{_≡_}
 use mathlib.Core.Bool.{cond}
 use mathlib.Core.List.{List, []}
-use Prim.Native.Nat.{ℕ, zero, suc, _+_, _*_}
+use Prim.Native.Nat.{ℕ, zero, suc, _+_, _*_, _<_}
 use lib.Dec.{eqb}
 use lib.IntN.{ℤ}
 use lib.ListN.{length}
@@ -26,6 +26,14 @@ stateWith state x (suc n) = stored 8 (stateWith state x n) (8 * n) (ofZ w64 (rea
 abbrev pub stateAfter : List ℕ → List ℤ → ℕ → List ℕ
 stateAfter state x zero = state
 stateAfter state x (suc count) = stateWith state x places
+
+-- number and count in one answer
+pub record Packed (image : List ℕ) (x : List ℤ) (n : ℕ) (drives outputs : List ℕ) (answer : ℕ) (y : List ℤ) (o : List ℕ) : Type 0 where
+  pub number : ℕ
+  pub count : ℕ
+  pub plays : Plays image x n drives outputs number count y o
+  pub packed : answer ≡ number * 65536 + count
+  pub small : count < 65536
 
 -- what the call answers and leaves
 pub record Called (image state : List ℕ) (n : ℕ) (drives outputs : List ℕ) (answer : ℕ) (state′ outputs′ : List ℕ) : Type 0 where

@@ -1,3 +1,4 @@
 pub mod Block
 pub mod Call
 pub mod Drives
+pub mod Playing

@@ -35,6 +35,13 @@ pub fn write(state: &mut [u8], x: &[i64; 32])
     }
 }
 
+// Stored currents as they are. That there are 32 of them is known of an array that is handed over.
+pub fn known(x: [i64; 32]) -> [i64; 32]
+    ensures { λ r. ⌜ (r ≡ x) × (length x ≡ 32) ⌝ }
+{
+    x
+}
+
 // Whether a stored current may stand at an element of this kind, 0 where there is none.
 fn legal_at(kind: u64, x: i64) -> bool
     ensures { λ r. ⌜ Decides r (LegalAt kind x) ⌝ }
