@@ -1,0 +1,2 @@
+// The exact search: the highest voltages of a sample, or that there are none.
+pub mod settle;
