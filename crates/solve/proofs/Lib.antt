@@ -1,2 +1,3 @@
+pub mod LeapLaws
 pub mod StepLaws
 pub mod SweepLaws

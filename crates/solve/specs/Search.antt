@@ -3,8 +3,8 @@ use mathlib.Core.Path.{_≡_}
 use mathlib.Core.List.{List}
 use mathlib.Core.Logic.{_⊎_}
 use Prim.Native.Nat.{ℕ, _+_, _*_, _^_, _≤_, _<_}
-use lib.IntN.{ℤ, pos}
-use lib.ListN.{length, getD}
+use lib.IntN.{ℤ, pos, _-ℤ_}
+use lib.ListN.{length, getD, set}
 use lib.Signed.{_≤ℤ_, _<ℤ_}
 use Rattle.units.specs.Voltage.{voltageLimit, InRange}
 use Rattle.network.specs.Network.{Free, reading, net, steepest, nodeLimit, leakLimit, branchLimit}
@@ -87,6 +87,12 @@ pub record Led (board : List ℕ) (volts far : List ℤ) : Type 0 where
   pub long : length far ≡ 16
   pub same : (j : ℕ) → j ≤ drivenOn board → reading far j ≡ reading volts j
   pub free : (j : ℕ) → drivenOn board < j → j ≤ nodesOn board → Further (reading volts j) (reading far j)
+
+-- node i at the far end of a leap: it didn't leap, or its net current was above zero and it is lowered by one
+abbrev pub SunkAt : (image board : List ℕ) (stored volts before after : List ℤ) → ℕ → Type 0
+SunkAt image board stored volts before after i =
+    ((after ≡ before) × (reading volts i ≤ℤ reading before i))
+    ⊎ ((after ≡ set before i (reading before i -ℤ pos 1)) × (reading before i <ℤ reading volts i) × (pos 0 <ℤ net 1 (networkOn image board) (reading stored) (reading before) i))
 
 -- from s, where a leap led, e sank, and every node that leapt is lower still
 pub record Sinks (image board : List ℕ) (stored volts s e : List ℤ) : Type 0 where

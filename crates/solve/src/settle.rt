@@ -16,7 +16,7 @@ ghost use Rattle.units.specs.Voltage.{InRange};
 ghost use Rattle.network.specs.Network.{Free, reading};
 ghost use Rattle.network.specs.Sample.{Low};
 ghost use Rattle.circuit.specs.Board.{networkOn, Evaluable, Ranged};
-ghost use Rattle.solve.specs.Search.{Steep, Searching, Went, LowAt, netBound, Further, Leads, Led, Sinks, Down, Came};
+ghost use Rattle.solve.specs.Search.{Steep, Searching, Went, LowAt, netBound, Further, Leads, Led, SunkAt, Sinks, Down, Came};
 
 // What came of a step or a sweep: no net current above zero, voltages lower than before, or that
 // there is nothing below them in range.
@@ -115,20 +115,36 @@ fn further(b: i64, v: i64, m: u64) -> i64
 }
 
 // All free nodes so.
-fn lead(board: &[u64; 164], before: &[i64; 16], volts: &[i64; 16], m: u64, far: &mut [i64; 16])
-    requires { ⌜ Leads (now board) (now before) (now volts) m × (now far ≡ now volts) ⌝ }
+fn lead(board: &[u64; 164], from: &[i64; 16], volts: &[i64; 16], m: u64, far: &mut [i64; 16])
+    requires { ⌜ Leads (now board) (now from) (now volts) m × (now far ≡ now volts) ⌝ }
     ensures { λ _. ⌜ Led (now (board .entry)) (now (volts .entry)) (now (far .exit)) ⌝ }
 {
     let nodes = board::nodes(board);
     let mut i = board::driven(board) + 1;
     while i <= nodes {
-        far[i] = further(before[i], volts[i], m);
+        far[i] = further(from[i], volts[i], m);
         i += 1;
     }
 }
 
-// The sweep at the far end that proves a leap: every node that leapt is lowered by one, its net
-// current being above zero when its turn comes. False as soon as one isn't.
+// One node at the far end of a leap: as it is if it didn't leap, else lowered by one, its net
+// current being above zero. False if it isn't.
+fn sink_at(image: &[u8], board: &[u64; 164], lines: &[i64; 136], stored: &[i64; 32], volts: &[i64; 16], far: &mut [i64; 16], i: usize) -> bool
+    requires { ⌜ Evaluable (now image) (now board) (now lines) (now stored) (now far) × Free (networkOn (now image) (now board)) i ⌝ }
+    ensures { λ r. ⌜ (r ≡ true → SunkAt (now (image .entry)) (now (board .entry)) (now (stored .entry)) (now (volts .entry)) (now (far .entry)) (now (far .exit)) i) ⌝ }
+{
+    if signed::at_most(volts[i], far[i]) {
+        return true;
+    }
+    let f = node::net_current(image, board, lines, stored, far, i);
+    if signed::at_most(f, 0) {
+        return false;
+    }
+    far[i] = signed::minus(far[i], 1);
+    true
+}
+
+// The sweep at the far end, which is what proves a leap. False as soon as a node doesn't sink.
 fn sink(image: &[u8], board: &[u64; 164], lines: &[i64; 136], stored: &[i64; 32], volts: &[i64; 16], far: &mut [i64; 16]) -> bool
     requires { ⌜ Evaluable (now image) (now board) (now lines) (now stored) (now far) × Led (now board) (now volts) (now far) ⌝ }
     ensures { λ r. ⌜ (r ≡ true → Sinks (now (image .entry)) (now (board .entry)) (now (stored .entry)) (now (volts .entry)) (now (far .entry)) (now (far .exit))) ⌝ }
@@ -136,26 +152,23 @@ fn sink(image: &[u8], board: &[u64; 164], lines: &[i64; 136], stored: &[i64; 32]
     let nodes = board::nodes(board);
     let mut i = board::driven(board) + 1;
     while i <= nodes {
-        if signed::less(far[i], volts[i]) {
-            let f = node::net_current(image, board, lines, stored, far, i);
-            if signed::at_most(f, 0) {
-                return false;
-            }
-            far[i] = signed::minus(far[i], 1);
+        if sink_at(image, board, lines, stored, volts, far, i) {
+            i += 1;
+        } else {
+            return false;
         }
-        i += 1;
     }
     true
 }
 
-// Leap: the nodes that fell from `before` to `volts` lowered m times as much again, if the sweep at
+// Leap: the nodes that fell from `from` to `volts` lowered m times as much again, if the sweep at
 // the far end proves it. Whether it did.
-fn leap(image: &[u8], board: &[u64; 164], lines: &[i64; 136], stored: &[i64; 32], steep: &[u64; 16], before: &[i64; 16], m: u64, volts: &mut [i64; 16]) -> bool
-    requires { ⌜ Searching (now image) (now board) (now lines) (now stored) (now steep) (now volts) × Ranged (now board) (now before) × (m ≤ 2 ^ 26) ⌝ }
+fn leap(image: &[u8], board: &[u64; 164], lines: &[i64; 136], stored: &[i64; 32], steep: &[u64; 16], from: &[i64; 16], m: u64, volts: &mut [i64; 16]) -> bool
+    requires { ⌜ Searching (now image) (now board) (now lines) (now stored) (now steep) (now volts) × Ranged (now board) (now from) × (m ≤ 2 ^ 26) ⌝ }
     ensures { λ r. ⌜ Down (now (image .entry)) (now (board .entry)) (now (stored .entry)) (now (volts .entry)) (now (volts .exit)) ⌝ }
 {
     let mut far = copied(volts);
-    lead(board, before, volts, m, &mut far);
+    lead(board, from, volts, m, &mut far);
     if sink(image, board, lines, stored, volts, &mut far) {
         *volts = far;
         return true;
@@ -164,13 +177,13 @@ fn leap(image: &[u8], board: &[u64; 164], lines: &[i64; 136], stored: &[i64; 32]
 }
 
 // Leaps of one, two, four .. times what the last sweep brought, as long as they hold.
-fn leaps(image: &[u8], board: &[u64; 164], lines: &[i64; 136], stored: &[i64; 32], steep: &[u64; 16], before: &[i64; 16], volts: &mut [i64; 16])
-    requires { ⌜ Searching (now image) (now board) (now lines) (now stored) (now steep) (now volts) × Ranged (now board) (now before) ⌝ }
+fn leaps(image: &[u8], board: &[u64; 164], lines: &[i64; 136], stored: &[i64; 32], steep: &[u64; 16], from: &[i64; 16], volts: &mut [i64; 16])
+    requires { ⌜ Searching (now image) (now board) (now lines) (now stored) (now steep) (now volts) × Ranged (now board) (now from) ⌝ }
     ensures { λ _. ⌜ Down (now (image .entry)) (now (board .entry)) (now (stored .entry)) (now (volts .entry)) (now (volts .exit)) ⌝ }
 {
     let mut m: u64 = 1;
     while m < 67108864 {
-        if leap(image, board, lines, stored, steep, before, m, volts) {
+        if leap(image, board, lines, stored, steep, from, m, volts) {
             m = 2 * m;
         } else {
             return;
