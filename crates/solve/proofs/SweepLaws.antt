@@ -31,6 +31,10 @@ module _ (image board : List ℕ) (stored : List ℤ) where
   pub nowhere-more : (a b : List ℤ) → Down image board stored a b → Nowhere image board stored b → Nowhere image board stored a
   nowhere-more a b p q d z h = q d z (p .settling d z h)
 
+  -- a sweep that leaves all as it was ends the search
+  pub still-there : (a b c : List ℤ) → Down image board stored a b → (c ≡ b) × Low (networkOn image board) (reading stored) (reading b) → Down image board stored a c × Low (networkOn image board) (reading stored) (reading c)
+  still-there a b c p h = subst (λ (l : List ℤ). Down image board stored a l × Low (networkOn image board) (reading stored) (reading l)) (sym (h .0)) (p, h .1)
+
   -- where a search goes on, it is given what it was given
   pub searching-down : (lines : List ℤ) (steep : List ℕ) (a b : List ℤ) → Searching image board lines stored steep a → Down image board stored a b → Searching image board lines stored steep b
   searching-down lines steep a b s p = record {
