@@ -11,7 +11,7 @@ use Rattle.network.specs.Network.{Network, Free, reading}
 use Rattle.network.specs.Sample.{Low}
 use Rattle.network.proofs.Measures.{height, height-under}
 use Rattle.circuit.specs.Board.{nodesOn, drivenOn, networkOn, Evaluable}
-use Rattle.solve.specs.Search.{Steep, Searching, LowAt, Down, Lowered, Nowhere}
+use Rattle.solve.specs.Search.{Steep, Searching, Places, LowAt, Down, Lowered, Nowhere}
 
 -- ---- going down, one after the other
 
@@ -34,6 +34,9 @@ module _ (image board : List ℕ) (stored : List ℤ) where
   -- a sweep that leaves all as it was ends the search
   pub still-there : (a b c : List ℤ) → Down image board stored a b → (c ≡ b) × Low (networkOn image board) (reading stored) (reading b) → Down image board stored a c × Low (networkOn image board) (reading stored) (reading c)
   still-there a b c p h = subst (λ (l : List ℤ). Down image board stored a l × Low (networkOn image board) (reading stored) (reading l)) (sym (h .0)) (p, h .1)
+
+  pub places-of : (lines : List ℤ) (steep : List ℕ) (a : List ℤ) → Searching image board lines stored steep a → Places board a
+  places-of lines steep a s = record { long = s .long; few = s .evaluable .ready .limits .few-nodes; driven-there = s .evaluable .ready .limits .wired .driven-there; ranged = s .evaluable .ranged }
 
   -- where a search goes on, it is given what it was given
   pub searching-down : (lines : List ℤ) (steep : List ℕ) (a b : List ℤ) → Searching image board lines stored steep a → Down image board stored a b → Searching image board lines stored steep b

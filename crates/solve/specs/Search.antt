@@ -28,6 +28,13 @@ pub record Searching (image board : List ℕ) (lines stored : List ℤ) (steep :
   pub steepest-sums : Steep image board steep
   pub long : length volts ≡ 16
 
+-- voltages in range, with a place for each node
+pub record Places (board : List ℕ) (volts : List ℤ) : Type 0 where
+  pub long : length volts ≡ 16
+  pub few : nodesOn board ≤ nodeLimit
+  pub driven-there : drivenOn board ≤ nodesOn board
+  pub ranged : Ranged board volts
+
 -- what no net current passes: 0.76 × 2^63
 abbrev pub netBound : ℕ
 netBound = leakLimit * voltageLimit + branchLimit * currentBound
@@ -75,11 +82,8 @@ pub record Further (v u : ℤ) : Type 0 where
 
 -- .. from what it is computed: the nodes' voltages before and after a sweep, and how many times as far
 pub record Leads (board : List ℕ) (before volts : List ℤ) (m : ℕ) : Type 0 where
-  pub long : length volts ≡ 16
-  pub few : nodesOn board ≤ nodeLimit
-  pub driven-there : drivenOn board ≤ nodesOn board
+  pub places : Places board volts
   pub from : Ranged board before
-  pub ranged : Ranged board volts
   pub times : m ≤ 2 ^ 26
 
 -- .. and all nodes: no other place changes

@@ -23,7 +23,7 @@ driven-requires : tie.Need-driven-requires Inv-loop μ-loop
 driven-requires c κs = search needs
 
 add-i : tie.Need-add-i Inv-loop μ-loop
-add-i c = let s = c .before .before in record { fits = omega (arith, c .driven .ensures, s .pre .0 .few, s .pre .0 .driven-there) }
+add-i c = let s = c .before .before in record { fits = omega (arith, c .driven .ensures, s .pre .0 .places .few, s .pre .0 .places .driven-there) }
 
 loop-holds : tie.Need-loop-holds Inv-loop μ-loop
 loop-holds c =
@@ -31,13 +31,13 @@ loop-holds c =
     let a = s .args in
     (
       omega (arith, c .driven .ensures),
-      omega (arith, c .driven .ensures, c .before .nodes .ensures, s .pre .0 .driven-there),
-      rw (c .driven .ensures) (led-none (a .board .now) (a .volts .now) (a .far .now) (s .pre .0 .long) (s .pre .1)),
+      omega (arith, c .driven .ensures, c .before .nodes .ensures, s .pre .0 .places .driven-there),
+      rw (c .driven .ensures) (led-none (a .board .now) (a .volts .now) (a .far .now) (s .pre .0 .places .long) (s .pre .1)),
     )
 
 -- a node of the loop has a place in the array
 place : (c : tie.In-loop Inv-loop μ-loop) → c .before .loop .i < 16
-place c = omega (arith, c .before .before .before .nodes .ensures, c .before .before .before .before .pre .0 .few)
+place c = omega (arith, c .before .before .before .nodes .ensures, c .before .before .before .before .pre .0 .places .few)
 
 mul-further : tie.Need-mul-further Inv-loop μ-loop
 mul-further c = record { fits = omega (arith, place c) }
@@ -58,7 +58,7 @@ further-requires c κs =
     let there : l .i ≤ nodesOn (s .args .board .now) = omega (arith, c .before .before .before .before .before .nodes .ensures) in
     let e : toZ w64 (ofZ w64 (reading (s .args .from .now) (l .i))) ≡ reading (s .args .from .now) (l .i) = search needs in
     let f : toZ w64 (ofZ w64 (reading (s .args .volts .now) (l .i))) ≡ reading (s .args .volts .now) (l .i) = search needs in
-    (rw e (s .pre .0 .from (l .i) there), rw f (s .pre .0 .ranged (l .i) there), s .pre .0 .times)
+    (rw e (s .pre .0 .from (l .i) there), rw f (s .pre .0 .places .ranged (l .i) there), s .pre .0 .times)
 
 mul-t19 : tie.Need-mul-t19 Inv-loop μ-loop
 mul-t19 c = record { fits = omega (arith, place (c .before .before .before)) }

@@ -1,6 +1,6 @@
 use mathlib.Core.Path.{_≡_, sym, _∙_}
 use native.Mathlib.Omega.{arith}
-use Rattle.solve.proofs.SweepLaws.{down-none}
+use Rattle.solve.proofs.SweepLaws.{down-none, places-of}
 use Rattle.solve.proofs.LeapLaws.{led-evaluable, leap-down}
 use borrow.Author.Needs.{needs}
 use Rattle.solve.proofs.settle.leap.Statement.{statement}
@@ -12,16 +12,8 @@ copied-requires c κs = search needs
 lead-requires : tie.Need-lead-requires
 lead-requires c κs =
     let s = c .before .before .before .before .before in
-    let r = s .pre .0 .evaluable .ready .limits in
     (
-      record {
-        long = s .pre .0 .long;
-        few = r .few-nodes;
-        driven-there = r .wired .driven-there;
-        from = s .pre .1;
-        ranged = s .pre .0 .evaluable .ranged;
-        times = s .pre .2;
-      },
+      record { places = places-of (s .args .image .now) (s .args .board .now) (s .args .stored .now) (s .args .lines .now) (s .args .steep .now) (s .args .volts .now) (s .pre .0); from = s .pre .1; times = s .pre .2 },
       c .before .before .copied .ensures .0,
     )
 
