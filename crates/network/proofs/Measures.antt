@@ -75,3 +75,11 @@ depth-falls N u v i there over more inside =
     total-less (λ (j : ℕ). up (L -ℤ v j)) (λ (j : ℕ). up (L -ℤ u j)) (suc (N .nodes)) i (omega arith)
     (up-less (L -ℤ u i) (L -ℤ v i) (omega (signs, sub-law L (u i), sub-law L (v i))) (omega (signs, sub-law L (v i))))
     (λ j l. parts (L -ℤ u j) (L -ℤ v j) (omega (signs, over j (omega arith), sub-law L (u j), sub-law L (v j))) .0)
+
+-- u is nowhere lower than v
+pub depth-over : (N : Network) (u v : ℕ → ℤ) → Under N v u → depth N u ≤ depth N v
+unfolding depth
+depth-over N u v over =
+    let L = pos voltageLimit in
+    total-le (λ (j : ℕ). up (L -ℤ v j)) (λ (j : ℕ). up (L -ℤ u j)) (suc (N .nodes))
+    (λ j l. parts (L -ℤ u j) (L -ℤ v j) (omega (signs, over j (omega arith), sub-law L (u j), sub-law L (v j))) .0)

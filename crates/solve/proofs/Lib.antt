@@ -1,3 +1,4 @@
+pub mod ClimbLaws
 pub mod LeapLaws
 pub mod StepLaws
 pub mod SweepLaws

@@ -1,2 +1,3 @@
+pub mod Climb
 pub mod Search
 pub mod Visit

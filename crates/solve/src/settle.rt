@@ -9,7 +9,7 @@ use units::voltage::Voltage;
 ghost use mathlib.Core.Path.{_≡_};
 ghost use mathlib.Core.Bool.{true};
 ghost use Prim.Native.Nat.{ℕ, _^_, _≤_, _<_};
-ghost use lib.IntN.{ℤ, pos, natAbs, _-ℤ_};
+ghost use lib.IntN.{ℤ, pos, natAbs, _-ℤ_, _*ℤ_};
 ghost use lib.ListN.{length};
 ghost use Rattle.units.specs.Integer.{roundedUp};
 ghost use Rattle.units.specs.Voltage.{InRange};
@@ -100,12 +100,20 @@ fn sweep(image: &[u8], board: &[u64; 164], lines: &[i64; 136], stored: &[i64; 32
     Fall::Lower
 }
 
+// m times as far again as from b to v.
+pub fn along(b: i64, v: i64, m: u64) -> i64
+    requires { ⌜ InRange b × InRange v × (m ≤ 2 ^ 26) ⌝ }
+    ensures { λ r. ⌜ r ≡ v -ℤ (b -ℤ v) *ℤ pos m ⌝ }
+{
+    signed::minus(v, signed::times(signed::minus(b, v), signed::whole(m)))
+}
+
 // Where a leap takes a node that fell from b to v: m times as far again, if it stays in range.
 fn further(b: i64, v: i64, m: u64) -> i64
     requires { ⌜ InRange b × InRange v × (m ≤ 2 ^ 26) ⌝ }
     ensures { λ r. ⌜ Further v r ⌝ }
 {
-    let u = signed::minus(v, signed::times(signed::minus(b, v), signed::whole(m)));
+    let u = along(b, v, m);
     if signed::less(signed::minus(0, Voltage::LIMIT), u) {
         if signed::less(u, v) {
             return u;

@@ -1,48 +1,18 @@
-use mathlib.Core.Path.{_≡_, sym, _∙_, ap}
-use Prim.Native.Nat.{ℕ, _+_, _*_, _^_, _≤_, _<_}
-use native.Mathlib.Omega.{arith}
-use lib.IntN.{ℤ, pos, natAbs, _-ℤ_, _*ℤ_}
+use mathlib.Core.Path.{_≡_, sym, _∙_}
 use mir.Syntax.{w64}
 use mir.Val.{toZ, ofZ}
 use mir.Facts.{toZ-ofZ}
 use borrow.Author.Needs.{needs}
 use Rattle.units.proofs.Integers.{ltZ-true}
-use Rattle.units.proofs.Sizes.{abs-mul}
-use Rattle.solve.proofs.LeapLaws.{way-fits, stays, goes}
+use Rattle.solve.proofs.LeapLaws.{stays, goes}
 use Rattle.solve.proofs.settle.further.Statement.{statement}
 use Rattle.solve.proofs.settle.further.Tie as tie
 
+along-requires : tie.Need-along-requires
+along-requires c κs = rw (toZ-ofZ (c .fits .b), toZ-ofZ (c .fits .v)) (c .pre)
+
 minus-requires : tie.Need-minus-requires
-minus-requires c κs = rw (toZ-ofZ (c .fits .b), toZ-ofZ (c .fits .v)) (omega (arith, c .pre .0, c .pre .1))
-
--- how far the node fell
-fell : (c : tie.After-minus) → toZ w64 (ofZ w64 (c .minus .result)) ≡ c .before .args .b -ℤ c .before .args .v
-fell c =
-    let e : toZ w64 (ofZ w64 (c .minus .result)) ≡ c .minus .result = search needs in
-    e ∙ (rw (toZ-ofZ (c .before .fits .b), toZ-ofZ (c .before .fits .v)) at (c .minus .ensures))
-
-whole-requires : tie.Need-whole-requires
-whole-requires c κs = omega (arith, c .before .pre .2)
-
-times-by : (c : tie.After-whole) → toZ w64 (ofZ w64 (c .whole .result)) ≡ pos (c .before .before .args .m)
-times-by c =
-    let e : toZ w64 (ofZ w64 (c .whole .result)) ≡ c .whole .result = search needs in
-    e ∙ c .whole .ensures
-
-times-requires : tie.Need-times-requires
-times-requires c κs =
-    let s = c .before .before in
-    rw (fell (c .before), times-by c) (omega (arith, way-fits (s .args .b) (s .args .v) (s .args .m) (s .pre .0) (s .pre .1) (s .pre .2)))
-
-minus-requires-2 : tie.Need-minus-requires-2
-minus-requires-2 c κs =
-    let s = c .before .before .before in
-    let e : toZ w64 (ofZ w64 (c .times .result)) ≡ c .times .result = search needs in
-    rw (toZ-ofZ (s .fits .v), e ∙ (rw (fell (c .before .before), times-by (c .before)) at (c .times .ensures)))
-    (omega (arith, s .pre .1, abs-mul (s .args .b -ℤ s .args .v) (pos (s .args .m)), way-fits (s .args .b) (s .args .v) (s .args .m) (s .pre .0) (s .pre .1) (s .pre .2)))
-
-minus-requires-3 : tie.Need-minus-requires-3
-minus-requires-3 c κs = search needs
+minus-requires c κs = search needs
 
 less-requires : tie.Need-less-requires
 less-requires c κs = search needs
@@ -52,29 +22,17 @@ less-requires-2 c κs = search needs
 
 returns : tie.Need-returns
 returns c =
-    let s = c .before .before .before .before .before .before .before .before .before in
-    let b : toZ w64 (ofZ w64 (c .before .before .before .before .minus3 .result)) ≡ c .before .before .before .before .minus3 .result = search needs in
+    let s = c .before .before .before .before .before .before in
+    let b : toZ w64 (ofZ w64 (c .before .before .before .before .minus .result)) ≡ c .before .before .before .before .minus .result = search needs in
     let below = ltZ-true _ _ (sym (rw (toZ-ofZ (s .fits .v)) at (c .before .less2 .ensures)) ∙ c .if2 .taken) in
-    let over = ltZ-true _ _ (sym (rw (b ∙ c .before .before .before .before .minus3 .ensures) at (c .before .before .before .less .ensures)) ∙ c .before .before .if1 .taken) in
-    goes (s .args .v) (toZ w64 (ofZ w64 (c .before .before .before .before .before .minus2 .result))) (s .pre .1) over below
+    let over = ltZ-true _ _ (sym (rw (b ∙ c .before .before .before .before .minus .ensures) at (c .before .before .before .less .ensures)) ∙ c .before .before .if1 .taken) in
+    goes (s .args .v) (toZ w64 (ofZ w64 (c .before .before .before .before .before .along .result))) (s .pre .1) over below
 
 returns-2 : tie.Need-returns-2
-returns-2 c = let s = c .before .before .before .before .before .before .before .before .before in rw (toZ-ofZ (s .fits .v)) (stays (s .args .v) (s .pre .1))
+returns-2 c = let s = c .before .before .before .before .before .before in rw (toZ-ofZ (s .fits .v)) (stays (s .args .v) (s .pre .1))
 
 returns-3 : tie.Need-returns-3
-returns-3 c = let s = c .before .before .before .before .before .before .before in rw (toZ-ofZ (s .fits .v)) (stays (s .args .v) (s .pre .1))
+returns-3 c = let s = c .before .before .before .before in rw (toZ-ofZ (s .fits .v)) (stays (s .args .v) (s .pre .1))
 
 pub further-spec : {M : Type 1} → statement M
-further-spec =
-    tie.close
-    (tie.spec
-    minus-requires
-    whole-requires
-    times-requires
-    minus-requires-2
-    minus-requires-3
-    less-requires
-    less-requires-2
-    returns
-    returns-2
-    returns-3)
+further-spec = tie.close (tie.spec along-requires minus-requires less-requires less-requires-2 returns returns-2 returns-3)
