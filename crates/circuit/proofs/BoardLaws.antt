@@ -8,17 +8,17 @@ use native.Mathlib.Omega.{arith}
 use lib.Dec.{eqb}
 use lib.IntN.{ℤ, pos, negℤ, natAbs, _+ℤ_, _*ℤ_, _-ℤ_, +ℤ-idr, +ℤ-assoc}
 use borrow.Author.Tests.{eq-eqb, ne-eqb}
-use Rattle.units.specs.Integer.{sum}
+use Rattle.units.specs.Integer.{sum, total}
 use Rattle.units.specs.Voltage.{Within, voltageLimit}
 use Rattle.units.proofs.Integers.{scale-one}
-use Rattle.units.proofs.Sizes.{sum-more}
-use Rattle.network.specs.Network.{conductance, pick, reading, current, leaving, net, conductanceLimit, breakpointLimit, leakLimit}
-use Rattle.network.proofs.Ranges.{currentBound, difference-fits, current-fits, leaving-fits, partial-sum-small}
-use Rattle.image.specs.Curve.{curveBytes}
+use Rattle.units.proofs.Sizes.{sum-more, total-grows}
+use Rattle.network.specs.Network.{Branch, conductance, pick, reading, current, leaving, net, conductanceOf, greatest, steepestOf, heldBy, held, steepestBy, steepest, conductanceLimit, breakpointLimit, leakLimit}
+use Rattle.network.proofs.Ranges.{currentBound, difference-fits, current-fits, leaving-fits, partial-sum-small, held-fits, steepest-fits}
+use Rattle.image.specs.Curve.{curveBytes, slopesOf}
 use Rattle.image.specs.Circuit.{diodeKind}
 use Rattle.circuit.specs.declared.branch.End.{End}
 use Rattle.circuit.specs.declared.branch.End.the-variants.{P, Q, Neither}
-use Rattle.circuit.specs.Board.{leakOn, nodesOn, countOn, kindOn, pOn, qOn, valueOn, branchOn, networkOn, Ready, Ranged, Evaluable, Ends, acrossOn, flowOn, endAt, curveCurrent}
+use Rattle.circuit.specs.Board.{leakOn, nodesOn, countOn, kindOn, pOn, qOn, valueOn, branchOn, networkOn, Ready, Ranged, Evaluable, Ends, acrossOn, flowOn, heldFrom, endAt, curveCurrent}
 
 -- ---- which end a node is, and what a branch has there
 
@@ -62,6 +62,57 @@ module _ (image board : List ℕ) (j : ℕ) where
   pub conductance-current : (kindOn board j ≡ diodeKind → ⊥) → (x v : ℤ) → pos (valueOn board j) *ℤ v -ℤ x ≡ current 1 (branchOn image board j .law) x v
   unfolding current
   conductance-current n x v = rw (conductance-law n, scale-one x)
+
+-- ---- conductance and steepest slope of element j
+
+module _ (image board : List ℕ) (j : ℕ) where
+  pub diode-conductance : kindOn board j ≡ diodeKind → 0 ≡ conductanceOf (branchOn image board j .law)
+  unfolding branchOn conductanceOf
+  diode-conductance e = rw (eq-eqb (kindOn board j) diodeKind e)
+
+  pub other-conductance : (kindOn board j ≡ diodeKind → ⊥) → valueOn board j ≡ conductanceOf (branchOn image board j .law)
+  unfolding conductanceOf
+  other-conductance n = rw (conductance-law image board j n)
+
+  pub diode-steepest : kindOn board j ≡ diodeKind → greatest (slopesOf (curveBytes image (valueOn board j))) ≡ steepestOf (branchOn image board j .law)
+  unfolding branchOn steepestOf
+  diode-steepest e = rw (eq-eqb (kindOn board j) diodeKind e)
+
+  pub other-steepest : (kindOn board j ≡ diodeKind → ⊥) → valueOn board j ≡ steepestOf (branchOn image board j .law)
+  unfolding steepestOf
+  other-steepest n = rw (conductance-law image board j n)
+
+-- .. at node i, by the end that it is
+module _ (image board : List ℕ) (j i : ℕ) where
+  abbrev b : Branch
+  b = branchOn image board j
+
+  abbrev s : ℕ
+  s = steepestOf (b .law)
+
+  pub held-p : P ≡ endAt board j i → heldFrom image board j (qOn board j) ≡ heldBy (networkOn image board) b i
+  unfolding heldBy branchOn
+  held-p e = sym (end-p (heldFrom image board j (qOn board j)) (heldFrom image board j (pOn board j)) 0 (eqb i (pOn board j)) (eqb i (qOn board j)) e)
+
+  pub held-q : Q ≡ endAt board j i → heldFrom image board j (pOn board j) ≡ heldBy (networkOn image board) b i
+  unfolding heldBy branchOn
+  held-q e = sym (end-q (heldFrom image board j (qOn board j)) (heldFrom image board j (pOn board j)) 0 (eqb i (pOn board j)) (eqb i (qOn board j)) e)
+
+  pub held-neither : Neither ≡ endAt board j i → 0 ≡ heldBy (networkOn image board) b i
+  unfolding heldBy branchOn
+  held-neither e = sym (end-neither (heldFrom image board j (qOn board j)) (heldFrom image board j (pOn board j)) 0 (eqb i (pOn board j)) (eqb i (qOn board j)) e)
+
+  pub steepest-p : P ≡ endAt board j i → s ≡ steepestBy b i
+  unfolding steepestBy branchOn
+  steepest-p e = sym (end-p s s 0 (eqb i (pOn board j)) (eqb i (qOn board j)) e)
+
+  pub steepest-q : Q ≡ endAt board j i → s ≡ steepestBy b i
+  unfolding steepestBy branchOn
+  steepest-q e = sym (end-q s s 0 (eqb i (pOn board j)) (eqb i (qOn board j)) e)
+
+  pub steepest-neither : Neither ≡ endAt board j i → 0 ≡ steepestBy b i
+  unfolding steepestBy branchOn
+  steepest-neither e = sym (end-neither s s 0 (eqb i (pOn board j)) (eqb i (qOn board j)) e)
 
 module _ (image board : List ℕ) (lines : List ℤ) (ready : Ready image board lines) where
   pub few-nodes : nodesOn board ≤ 15
@@ -153,3 +204,32 @@ module _ (image board : List ℕ) (lines stored volts : List ℤ) (given : Evalu
         partial-sum-small N limits (reading stored) (reading volts) (given .kept) (given .ranged) i n there (omega arith),
         leaving-fits N limits (reading stored) (reading volts) (given .kept) (given .ranged) i n l,
       )
+
+-- ---- held conductance and steepest sum, as loops over the elements add them up
+
+-- the leak, and what each of the first n elements adds
+abbrev pub added : List ℕ → (ℕ → ℕ) → ℕ → ℕ
+added board f n = leakOn board + total f n
+
+-- what element j adds to each
+abbrev pub heldEach : List ℕ → List ℕ → ℕ → ℕ → ℕ
+heldEach image board i j = heldBy (networkOn image board) (branchOn image board j) i
+
+abbrev pub steepestEach : List ℕ → List ℕ → ℕ → ℕ → ℕ
+steepestEach image board i j = steepestBy (branchOn image board j) i
+
+module _ (image board : List ℕ) (lines : List ℤ) (ready : Ready image board lines) (i : ℕ) where
+  pub held-all : added board (heldEach image board i) (countOn board) ≡ held (networkOn image board) i
+  unfolding held
+  held-all = refl
+
+  pub steepest-all : added board (steepestEach image board i) (countOn board) ≡ steepest (networkOn image board) i
+  unfolding steepest
+  steepest-all = refl
+
+  -- one more element still fits
+  pub held-more-fits : (n : ℕ) → n < countOn board → added board (heldEach image board i) (n + 1) < 2 ^ 36
+  held-more-fits n l = omega (arith, total-grows (heldEach image board i) (n + 1) (countOn board) (omega arith), held-all, held-fits (networkOn image board) (ready .limits) i)
+
+  pub steepest-more-fits : (n : ℕ) → n < countOn board → added board (steepestEach image board i) (n + 1) < 2 ^ 36
+  steepest-more-fits n l = omega (arith, total-grows (steepestEach image board i) (n + 1) (countOn board) (omega arith), steepest-all, steepest-fits (networkOn image board) (ready .limits) i)

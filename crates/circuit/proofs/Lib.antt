@@ -1,4 +1,7 @@
+pub mod AdvanceLaws
 pub mod BoardLaws
+pub mod BoundLaws
 pub mod CurveLaws
-pub mod Lines
+pub mod LineLaws
+pub mod OpeningLaws
 pub mod Tables

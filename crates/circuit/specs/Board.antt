@@ -5,15 +5,16 @@ use mathlib.Core.Path.{_≡_}
 use mathlib.Core.List.{List}
 use Prim.Native.Nat.{ℕ, _+_, _*_, _≤_, _<_}
 use lib.IntN.{ℤ, pos, _-ℤ_}
-use lib.Dec.{eqb}
+use mathlib.Core.Bool.{cond}
+use lib.Dec.{eqb, leb}
 use lib.ListN.{length, getD}
 use Rattle.units.specs.Voltage.{Within, InRange}
-use Rattle.network.specs.Network.{curve, current, pick, Branch, Network, reading, CurveInLimits, InLimits, storedLimit}
+use Rattle.network.specs.Network.{curve, current, conductanceOf, pick, Branch, Network, reading, InLimits, storedLimit}
 use Rattle.image.specs.Curve.{breakpointsAt, curveLength, curveBytes, slopesOf, breakpointsOf}
 use Rattle.image.specs.Circuit.{diodeKind, lawOf, storeOf}
 use Rattle.circuit.specs.declared.branch.End.{End}
 use Rattle.circuit.specs.declared.branch.End.the-variants.{P, Q, Neither}
-use Rattle.circuit.specs.Line.{Rising, atZero}
+use Rattle.circuit.specs.Line.{atZero, Whole}
 
 abbrev pub leakOn : List ℕ → ℕ
 leakOn board = getD board 0 0
@@ -64,11 +65,13 @@ networkOn image board = record {
 abbrev pub curveCurrent : List ℕ → ℤ → ℤ
 curveCurrent bytes v = current 1 (curve (slopesOf bytes) (breakpointsOf bytes)) (pos 0) v
 
--- a curve's bytes, whole and within the limits, its breakpoints rising, and its lines in the table from `at` on
+-- the conductance of element j, if the other end is ground or a driven node
+abbrev pub heldFrom : List ℕ → List ℕ → ℕ → ℕ → ℕ
+heldFrom image board j other = cond (leb other (drivenOn board)) (conductanceOf (branchOn image board j .law)) 0
+
+-- a whole curve, with its lines in the table from `at` on
 pub record CurveReady (bytes : List ℕ) (lines : List ℤ) (at : ℕ) : Type 0 where
-  pub whole : length bytes ≡ curveLength (getD bytes 0 0)
-  pub limits : CurveInLimits (slopesOf bytes) (breakpointsOf bytes)
-  pub rising : Rising (breakpointsOf bytes)
+  pub whole : Whole bytes
   pub lines-there : at + 17 ≤ 136
   pub line : (i : ℕ) → i ≤ getD bytes 0 0 → reading lines (at + i) ≡ atZero (slopesOf bytes) (breakpointsOf bytes) i
 

@@ -1,54 +1,24 @@
 // The current of a curve, from its own bytes as they lie in the image and the table of its lines.
-use units::bytes;
 use units::signed;
 ghost use mathlib.Core.Path.{_≡_};
-ghost use Prim.Native.Nat.{ℕ, _+_, _*_, _≤_, _<_};
+ghost use Prim.Native.Nat.{ℕ, _+_, _*_, _≤_, _<_, max};
 ghost use lib.ListN.{length, getD};
 ghost use lib.IntN.{ℤ};
 ghost use Rattle.units.specs.Voltage.{Within};
-ghost use Rattle.network.specs.Network.{breakpointLimit};
-ghost use Rattle.image.specs.Curve.{breakpointsAt, curveLength, curveBytes, slopeOf, breakpointOf, slopesOf, breakpointsOf};
+ghost use Rattle.network.specs.Network.{greatest, breakpointLimit};
+ghost use Rattle.image.specs.Curve.{curveLength, slopesOf, breakpointsOf};
 ghost use Rattle.circuit.specs.Line.{stretchOf};
 ghost use Rattle.circuit.specs.Board.{CurveReady, curveCurrent};
-
-fn wide(x: u8) -> usize
-    ensures { λ r. ⌜ (r ≡ x) × (r < 256) ⌝ }
-{
-    x as usize
-}
-
-// The bytes of the curve that starts at `at`.
-pub fn bytes_at<'a>(image: &'a [u8], at: usize) -> &'a [u8]
-    requires { ⌜ at + curveLength (breakpointsAt (now image) at) ≤ length (now image) ⌝ }
-    ensures { λ r. ⌜ now r ≡ curveBytes (now (image .entry)) at ⌝ }
-{
-    let len = 8 + 8 * wide(image[at]);
-    &image[at..at + len]
-}
-
-pub fn slope(curve: &[u8], j: usize) -> u64
-    requires { ⌜ 8 + 4 * j ≤ length (now curve) ⌝ }
-    ensures { λ r. ⌜ r ≡ slopeOf (now (curve .entry)) j ⌝ }
-{
-    bytes::u32_at(curve, 4 + 4 * j)
-}
-
-pub fn breakpoint(curve: &[u8], j: usize) -> i64
-    requires { ⌜ 12 + 4 * getD (now curve) 0 0 + 4 * j ≤ length (now curve) ⌝ }
-    ensures { λ r. ⌜ r ≡ breakpointOf (now (curve .entry)) j ⌝ }
-{
-    bytes::i32_at(curve, 8 + 4 * wide(curve[0]) + 4 * j)
-}
 
 // The stretch that v lies in.
 pub fn stretch(curve: &[u8], v: i64) -> usize
     requires { ⌜ length (now curve) ≡ curveLength (getD (now curve) 0 0) ⌝ }
     ensures { λ r. ⌜ r ≡ stretchOf (breakpointsOf (now (curve .entry))) v ⌝ }
 {
-    let m = wide(curve[0]);
+    let m = image::breakpoint_count(curve);
     let mut j: usize = 0;
     while j < m {
-        if signed::less(v, breakpoint(curve, j)) {
+        if signed::less(v, image::breakpoint(curve, j)) {
             return j;
         }
         j += 1;
@@ -62,5 +32,28 @@ pub fn current(curve: &[u8], lines: &[i64; 136], at: usize, v: i64) -> i64
     ensures { λ r. ⌜ r ≡ curveCurrent (now (curve .entry)) v ⌝ }
 {
     let j = stretch(curve, v);
-    signed::plus(signed::times(signed::whole(slope(curve, j)), v), lines[at + j])
+    signed::plus(
+        signed::times(signed::whole(image::slope(curve, j)), v),
+        lines[at + j],
+    )
+}
+
+fn larger(a: u64, b: u64) -> u64
+    ensures { λ r. ⌜ r ≡ max a b ⌝ }
+{
+    if a < b { b } else { a }
+}
+
+// The greatest slope of a curve.
+pub fn steepest(curve: &[u8]) -> u64
+    requires { ⌜ length (now curve) ≡ curveLength (getD (now curve) 0 0) ⌝ }
+    ensures { λ r. ⌜ r ≡ greatest (slopesOf (now (curve .entry))) ⌝ }
+{
+    let mut i = 1 + image::breakpoint_count(curve);
+    let mut most: u64 = 0;
+    while 0 < i {
+        i -= 1;
+        most = larger(image::slope(curve, i), most);
+    }
+    most
 }

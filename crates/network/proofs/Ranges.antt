@@ -68,7 +68,7 @@ unfolding steepestOf
 steepest-of-small (conductance g) h = h .1
 steepest-of-small (curve ss bs) h = greatest-small ss conductanceLimit (h .slope)
 
-conductance-of-small : (l : Law) → LawInLimits l → conductanceOf l ≤ conductanceLimit
+pub conductance-of-small : (l : Law) → LawInLimits l → conductanceOf l ≤ conductanceLimit
 unfolding conductanceOf
 conductance-of-small (conductance g) h = h .1
 conductance-of-small (curve ss bs) h = omega arith

@@ -3,11 +3,11 @@ use mathlib.Core.Path.{_≡_, refl, sym, _∙_, ap}
 use mathlib.Core.Logic.{⊎-elim}
 use Prim.Native.Nat.{ℕ, zero, suc, _+_, _*_, _-_, _/_, _^_, _≤_, _<_}
 use native.Mathlib.Omega.{arith}
-use native.Mathlib.Nat.{suc-mul, mul-add, mul-div-le, lt-mul-div-succ}
+use native.Mathlib.Nat.{le-refl, suc-mul, mul-add, mul-div-le, lt-mul-div-succ}
 use native.Mathlib.Numerals.{add-one}
 use lib.IntN.{ℤ, pos, negsuc, negℤ, natAbs, _+ℤ_, _-ℤ_, _*ℤ_}
 use Rattle.units.specs.Integer.{sum, total, roundedUp}
-use Rattle.units.proofs.Integers.{up, dn, add-law, sub-law, abs-law, one-sided}
+use Rattle.units.proofs.Integers.{up, dn, add-law, sub-law, abs-law, one-sided, decideN}
 
 -- |z| is the least sum of two numbers whose difference is z
 pub abs-least : (z : ℤ) (x y : ℕ) → up z + y ≡ dn z + x → natAbs z ≤ x + y
@@ -61,6 +61,13 @@ pub total-small : (f : ℕ → ℕ) (b n : ℕ) → ((i : ℕ) → i < n → f i
 unfolding total
 total-small f b zero h = omega arith
 total-small f b (suc n) h = omega (arith, total-small f b n (λ i l. h i (omega arith)), h n (omega arith), suc-mul n b)
+
+pub total-grows : (f : ℕ → ℕ) (m n : ℕ) → m ≤ n → total f m ≤ total f n
+unfolding total
+total-grows f m zero h = let e : m ≡ 0 = omega arith in rw e (le-refl _)
+total-grows f m (suc n) h = ⊎-elim
+    (λ (l : m ≤ n). omega (arith, total-grows f m n l))
+    (λ (l : n < m). let e : m ≡ suc n = omega arith in rw e (le-refl _)) (decideN m n)
 
 -- ---- division by s above 0
 

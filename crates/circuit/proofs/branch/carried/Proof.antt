@@ -43,9 +43,8 @@ value-requires c κs = search needs
 kind-requires : tie.Need-kind-requires
 kind-requires c κs = search needs
 
-bytes-at-requires : tie.Need-bytes-at-requires
-bytes-at-requires c κs =
-    rw (c .before .before .value .ensures) (diode-here c .there)
+curve-at-requires : tie.Need-curve-at-requires
+curve-at-requires c κs = search needs
 
 lines-at-requires : tie.Need-lines-at-requires
 lines-at-requires c κs = search needs
@@ -53,9 +52,8 @@ lines-at-requires c κs = search needs
 current-requires : tie.Need-current-requires
 current-requires c κs =
     let t = c .before .before in
-    let s = t .before .before .before .before in
-    (
-      rw (c .before .bytes-at .ensures, t .before .before .value .ensures, c .lines-at .ensures) (diode-here t .ready),
+    let s = t .before .before .before .before in (
+      rw (c .before .curve-at .ensures, t .before .before .value .ensures, c .lines-at .ensures) (diode-here t .ready),
       rw (toZ-ofZ (s .fits .v)) (s .pre .3),
     )
 
@@ -64,7 +62,7 @@ returns c =
     let t = c .before .before .before in
     let s = t .before .before .before .before in
     let e : toZ w64 (ofZ w64 (c .current .result)) ≡ c .current .result = search needs in
-    let is = rw (c .before .before .bytes-at .ensures, t .before .before .value .ensures, toZ-ofZ (s .fits .v)) at (c .current .ensures) in
+    let is = rw (c .before .before .curve-at .ensures, t .before .before .value .ensures, toZ-ofZ (s .fits .v)) at (c .current .ensures) in
     e ∙ is ∙ diode-current (s .args .image .now) (s .args .board .now) (s .args .j) (sym (t .before .kind .ensures) ∙ t .if1 .taken) (s .args .x) (s .args .v)
 
 whole-requires : tie.Need-whole-requires
@@ -97,7 +95,7 @@ carried-spec =
     (tie.spec
     value-requires
     kind-requires
-    bytes-at-requires
+    curve-at-requires
     lines-at-requires
     current-requires
     returns

@@ -30,8 +30,7 @@ across-requires c κs = let s = c .before .before in ends _ _ _ (s .pre .0 .read
 
 carried-requires : tie.Need-carried-requires
 carried-requires c κs =
-    let s = c .before .before .before in
-    (
+    let s = c .before .before .before in (
       s .pre .0 .ready,
       s .pre .1,
       rw (at-stored c) (s .pre .0 .kept (s .args .j) (s .pre .1)),

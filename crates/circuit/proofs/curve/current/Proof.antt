@@ -21,10 +21,10 @@ found : (c : tie.After-stretch) → c .stretch .result ≡ stretchOf (breakpoint
 found c = rw (toZ-ofZ (c .before .before .fits .v)) at (c .stretch .ensures)
 
 there : (c : tie.After-stretch) → c .stretch .result ≤ getD (c .before .before .args .curve .now) 0 0
-there c = let s = c .before .before in omega (arith, found c, stretch-few _ _ _ (s .pre .0) (s .args .v))
+there c = let s = c .before .before in omega (arith, found c, stretch-few (s .args .curve .now) (s .args .lines .now) (s .args .at) (s .pre .0) (s .args .v))
 
 place : (c : tie.After-stretch) → c .before .before .args .at + c .stretch .result < 136
-place c = let s = c .before .before in omega (arith, there c, few _ _ _ (s .pre .0), s .pre .0 .lines-there)
+place c = let s = c .before .before in omega (arith, there c, few _ (s .pre .0 .whole), s .pre .0 .lines-there)
 
 -- the slope, the product and the line's current at zero volts, as numbers with a sign
 at-slope : (c : tie.After-whole) → toZ w64 (ofZ w64 (c .whole .result)) ≡ pos (slopeOf (c .before .before .before .before .args .curve .now) (c .before .before .stretch .result))
@@ -41,19 +41,19 @@ stretch-requires : tie.Need-stretch-requires
 stretch-requires c κs = search needs
 
 slope-requires : tie.Need-slope-requires
-slope-requires c κs = let s = c .before .before in omega (arith, there c, s .pre .0 .whole)
+slope-requires c κs = let s = c .before .before in omega (arith, there c, s .pre .0 .whole .length-is)
 
 whole-requires : tie.Need-whole-requires
 whole-requires c κs =
     let s = c .before .before .before in
-    omega (arith, c .slope .ensures, slope-fits _ _ _ (s .pre .0) (c .before .stretch .result) (there (c .before)))
+    omega (arith, c .slope .ensures, slope-fits _ (s .pre .0 .whole) (c .before .stretch .result) (there (c .before)))
 
 times-requires : tie.Need-times-requires
 times-requires c κs =
     let s = c .before .before .before .before in
     let g = slopeOf (s .args .curve .now) (c .before .before .stretch .result) in
     rw (at-slope c, toZ-ofZ (s .fits .v))
-    (omega (arith, abs-mul (pos g) (s .args .v), product-fits g (s .args .v) (slope-fits _ _ _ (s .pre .0) (c .before .before .stretch .result) (there (c .before .before))) (s .pre .1)))
+    (omega (arith, abs-mul (pos g) (s .args .v), product-fits g (s .args .v) (slope-fits _ (s .pre .0 .whole) (c .before .before .stretch .result) (there (c .before .before))) (s .pre .1)))
 
 add-plus : tie.Need-add-plus
 add-plus c = record { fits = omega (arith, place (c .before .before .before)) }

@@ -7,7 +7,7 @@ use mir.Syntax.{w64}
 use mir.Val.{toZ, ofZ}
 use Rattle.network.specs.Network.{reading}
 use Rattle.image.specs.Curve.{breakpointsOf}
-use Rattle.circuit.proofs.Lines.{stretch-is}
+use Rattle.circuit.proofs.LineLaws.{stretch-is}
 use Rattle.circuit.proofs.Tables.{breakpoints-length, breakpoint-at}
 use mir.Facts.{toZ-ofZ}
 use Rattle.units.proofs.Integers.{ltZ-true, ltZ-false}
@@ -22,11 +22,8 @@ Inv-loop curve v m j₀ j = (j ≤ m) × ((i : ℕ) → i < j → reading (break
 abbrev μ-loop : tie.MeasureT-loop
 μ-loop curve v m j₀ j = m - j
 
-shared-slice-read-wide : tie.Need-shared-slice-read-wide Inv-loop μ-loop
-shared-slice-read-wide c = search needs
-
-wide-requires : tie.Need-wide-requires Inv-loop μ-loop
-wide-requires c κs = search needs
+breakpoint-count-requires : tie.Need-breakpoint-count-requires Inv-loop μ-loop
+breakpoint-count-requires c κs = search needs
 
 loop-holds : tie.Need-loop-holds Inv-loop μ-loop
 loop-holds c = (search needs, λ i h. absurd (omega arith))
@@ -38,10 +35,10 @@ less-requires : tie.Need-less-requires Inv-loop μ-loop
 less-requires c κs = search needs
 
 -- what stands in the locals: the voltage, and breakpoint j
-at-v : (c : tie.After-less Inv-loop μ-loop) → toZ w64 (ofZ w64 (c .before .before .before .before .before .before .before .args .v)) ≡ c .before .before .before .before .before .before .before .args .v
-at-v c = toZ-ofZ (c .before .before .before .before .before .before .before .fits .v)
+at-v : (c : tie.After-less Inv-loop μ-loop) → toZ w64 (ofZ w64 (c .before .before .before .before .before .before .args .v)) ≡ c .before .before .before .before .before .before .args .v
+at-v c = toZ-ofZ (c .before .before .before .before .before .before .fits .v)
 
-at-j : (c : tie.After-less Inv-loop μ-loop) → toZ w64 (ofZ w64 (c .before .breakpoint .result)) ≡ reading (breakpointsOf (c .before .before .before .before .before .before .before .args .curve .now)) (c .before .before .before .loop .j)
+at-j : (c : tie.After-less Inv-loop μ-loop) → toZ w64 (ofZ w64 (c .before .breakpoint .result)) ≡ reading (breakpointsOf (c .before .before .before .before .before .before .args .curve .now)) (c .before .before .before .loop .j)
 at-j c =
     let b = c .before .breakpoint .result in
     let e : toZ w64 (ofZ w64 b) ≡ b = search needs in
@@ -50,7 +47,7 @@ at-j c =
 returns : tie.Need-returns Inv-loop μ-loop
 returns c =
     let d = c .before in
-    let s = d .before .before .before .before .before .before .before in
+    let s = d .before .before .before .before .before .before in
     let above = ltZ-true _ _ (rw (at-v d, at-j d) at (sym (d .less .ensures) ∙ c .if1 .taken)) in
     sym (stretch-is _ _ _ (omega (arith, breakpoints-length (s .args .curve .now))) (λ i h. rw (at-v d) at (d .before .before .before .loop .inv .1 i h)) (λ h. above))
 
@@ -68,7 +65,7 @@ loop-again c =
 
 returns-2 : tie.Need-returns-2 Inv-loop μ-loop
 returns-2 c =
-    let s = c .before .before .before .before .before in
+    let s = c .before .before .before .before in
     let n = breakpoints-length (s .args .curve .now) in
     sym (stretch-is _ _ _ (omega arith) (λ i h. rw (toZ-ofZ (s .fits .v)) at (c .before .loop .inv .1 i h)) (λ h. absurd (omega arith)))
 
@@ -78,8 +75,7 @@ stretch-spec =
     (tie.spec
     Inv-loop
     μ-loop
-    shared-slice-read-wide
-    wide-requires
+    breakpoint-count-requires
     loop-holds
     breakpoint-requires
     less-requires

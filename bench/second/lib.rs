@@ -1,0 +1,39 @@
+//! The block for a host written in C.
+
+mod block;
+mod image;
+mod network;
+mod search;
+mod start;
+
+/// A part of the host's memory; a length of zero may come with any pointer.
+unsafe fn lent<'a>(bytes: *const u8, length: usize) -> &'a [u8] {
+    if length == 0 { &[] } else { unsafe { std::slice::from_raw_parts(bytes, length) } }
+}
+
+/// The same, to be written.
+unsafe fn lent_mut<'a>(bytes: *mut u8, length: usize) -> &'a mut [u8] {
+    if length == 0 { &mut [] } else { unsafe { std::slice::from_raw_parts_mut(bytes, length) } }
+}
+
+/// Number x 65,536 + count.
+///
+/// # Safety
+/// Each pointer holds as many bytes as its length says, and the two that are written overlap with nothing.
+#[unsafe(no_mangle)]
+pub unsafe extern "C" fn second_block(
+    image: *const u8,
+    image_length: usize,
+    state: *mut u8,
+    state_length: usize,
+    n: u64,
+    drives: *const u8,
+    drives_length: usize,
+    outputs: *mut u8,
+    outputs_length: usize,
+) -> u64 {
+    let (image, drives) = unsafe { (lent(image, image_length), lent(drives, drives_length)) };
+    let (state, outputs) = unsafe { (lent_mut(state, state_length), lent_mut(outputs, outputs_length)) };
+    let outcome = block::block(image, state, n, drives, outputs);
+    outcome.number * 65_536 + outcome.count
+}

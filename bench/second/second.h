@@ -1,0 +1,12 @@
+/* The second program's block, for a host test that holds another block against it. */
+#ifndef SECOND_H
+#define SECOND_H
+
+#include <stddef.h>
+#include <stdint.h>
+
+/* Number x 65,536 + count, with the state and outputs of document 01. */
+uint64_t second_block(const uint8_t *image, size_t image_length, uint8_t *state, size_t state_length, uint64_t n,
+                      const uint8_t *drives, size_t drives_length, uint8_t *outputs, size_t outputs_length);
+
+#endif

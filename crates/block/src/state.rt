@@ -1,0 +1,64 @@
+// Stored currents as a state's bytes, and whether they are legal.
+use circuit::advance;
+use circuit::board;
+use units::bytes;
+use units::signed;
+ghost use mathlib.Core.Path.{_≡_};
+ghost use lib.ListN.{length};
+ghost use Rattle.circuit.specs.Board.{networkOn};
+ghost use Rattle.block.specs.Block.{StateLegal, LegalAt, Decides};
+ghost use Rattle.block.specs.Call.{storedIn, stateWith};
+
+// The stored currents in a state's bytes.
+pub fn read(state: &[u8]) -> [i64; 32]
+    requires { ⌜ length (now state) ≡ 256 ⌝ }
+    ensures { λ r. ⌜ r ≡ storedIn (now (state .entry)) ⌝ }
+{
+    let mut x = [0i64; 32];
+    let mut j: usize = 0;
+    while j < 32 {
+        x[j] = bytes::i64_at(state, 8 * j);
+        j += 1;
+    }
+    x
+}
+
+// The stored currents into a state's bytes.
+pub fn write(state: &mut [u8], x: &[i64; 32])
+    requires { ⌜ length (now state) ≡ 256 ⌝ }
+    ensures { λ _. ⌜ now (state .exit) ≡ stateWith (now (state .entry)) (now (x .entry)) 32 ⌝ }
+{
+    let mut j: usize = 0;
+    while j < 32 {
+        bytes::put_i64(state, 8 * j, x[j]);
+        j += 1;
+    }
+}
+
+// Whether a stored current may stand at an element of this kind, 0 where there is none.
+fn legal_at(kind: u64, x: i64) -> bool
+    ensures { λ r. ⌜ Decides r (LegalAt kind x) ⌝ }
+{
+    if kind == 2 {
+        return advance::is_kept(x);
+    }
+    if kind == 3 {
+        return advance::is_kept(x);
+    }
+    signed::size(x) == 0
+}
+
+// Whether all stored currents are legal.
+pub fn legal(image: &[u8], board: &[u64; 164], x: &[i64; 32]) -> bool
+    requires { ⌜ length (now x) ≡ 32 ⌝ }
+    ensures { λ r. ⌜ Decides r (StateLegal (networkOn (now (image .entry)) (now (board .entry))) (now (x .entry))) ⌝ }
+{
+    let mut j: usize = 0;
+    while j < 32 {
+        if !legal_at(board::kind(board, j), x[j]) {
+            return false;
+        }
+        j += 1;
+    }
+    true
+}

@@ -1,0 +1,121 @@
+// The advance of stored currents from one sample to the next. All are tested before any is stored.
+use crate::board;
+use crate::branch;
+use units::signed;
+ghost use mathlib.Core.Path.{_≡_};
+ghost use Prim.Native.Nat.{ℕ, _<_};
+ghost use lib.IntN.{ℤ};
+ghost use lib.ListN.{length};
+ghost use Rattle.units.specs.Voltage.{Within, within};
+ghost use Rattle.network.specs.Network.{storedLimit};
+ghost use Rattle.circuit.specs.Board.{countOn, Ready, Ranged, Evaluable};
+ghost use Rattle.circuit.specs.Advance.{Twice, nextOn, AllKept, StoredTo, Advancing};
+
+// The limit of a stored current, in femtoamperes.
+pub const LIMIT: u64 = 144115188075855872;
+
+// Whether a stored current is within its limit.
+pub fn is_kept(x: i64) -> bool
+    ensures { λ r. ⌜ r ≡ within storedLimit x ⌝ }
+{
+    signed::size(x) <= LIMIT
+}
+
+// What came of an advance: all stored currents are the new ones, or one of those would be beyond its
+// limit and all are as they were.
+pub enum Advanced {
+    Stored,
+    Beyond,
+}
+
+// Twice what the conductance of element j carries at its voltage.
+fn twice(image: &[u8], board: &[u64; 164], lines: &[i64; 136], volts: &[i64; 16], j: usize) -> i64
+    requires { ⌜ Ready (now image) (now board) (now lines) × Ranged (now board) (now volts) × (j < countOn (now board)) ⌝ }
+    ensures { λ r. ⌜ Twice (now (image .entry)) (now (board .entry)) (now (volts .entry)) j r ⌝ }
+{
+    signed::times(
+        signed::whole(2 * branch::conductance(image, board, j)),
+        branch::across(board, volts, j),
+    )
+}
+
+// The stored current of element j after a sample, x being the one before it.
+fn next(
+    image: &[u8],
+    board: &[u64; 164],
+    lines: &[i64; 136],
+    volts: &[i64; 16],
+    j: usize,
+    x: i64,
+) -> i64
+    requires { ⌜ Ready (now image) (now board) (now lines) × Ranged (now board) (now volts) × (j < countOn (now board)) × Within storedLimit x ⌝ }
+    ensures { λ r. ⌜ r ≡ nextOn (now (image .entry)) (now (board .entry)) (now (volts .entry)) j x ⌝ }
+{
+    let kind = board::kind(board, j);
+    if kind == 2 {
+        return signed::minus(twice(image, board, lines, volts, j), x);
+    }
+    if kind == 3 {
+        return signed::minus(x, twice(image, board, lines, volts, j));
+    }
+    0
+}
+
+// Whether every new stored current is within its limit.
+fn all_kept(
+    image: &[u8],
+    board: &[u64; 164],
+    lines: &[i64; 136],
+    volts: &[i64; 16],
+    stored: &[i64; 32],
+) -> bool
+    requires { ⌜ Evaluable (now image) (now board) (now lines) (now stored) (now volts) ⌝ }
+    ensures { λ r. ⌜ AllKept (now (image .entry)) (now (board .entry)) (now (volts .entry)) (now (stored .entry)) r ⌝ }
+{
+    let count = board::count(board);
+    let mut j: usize = 0;
+    while j < count {
+        if !is_kept(next(image, board, lines, volts, j, stored[j])) {
+            return false;
+        }
+        j += 1;
+    }
+    true
+}
+
+// Stores every new stored current. Each depends on its own old one alone, so that it can take its place.
+fn store_all(
+    image: &[u8],
+    board: &[u64; 164],
+    lines: &[i64; 136],
+    volts: &[i64; 16],
+    stored: &mut [i64; 32],
+)
+    requires { ⌜ Evaluable (now image) (now board) (now lines) (now stored) (now volts) × (length (now stored) ≡ 32) ⌝ }
+    ensures { λ _. ⌜ StoredTo (now (image .entry)) (now (board .entry)) (now (volts .entry)) (now (stored .entry)) (countOn (now (board .entry))) (now (stored .exit)) ⌝ }
+{
+    let count = board::count(board);
+    let mut j: usize = 0;
+    while j < count {
+        stored[j] = next(image, board, lines, volts, j, stored[j]);
+        j += 1;
+    }
+}
+
+// All stored currents after a sample with these voltages, if every one is within its limit.
+pub fn advance(
+    image: &[u8],
+    board: &[u64; 164],
+    lines: &[i64; 136],
+    volts: &[i64; 16],
+    stored: &mut [i64; 32],
+) -> Advanced
+    requires { ⌜ Evaluable (now image) (now board) (now lines) (now stored) (now volts) × (length (now stored) ≡ 32) ⌝ }
+    ensures { λ r. ⌜ Advancing (now (image .entry)) (now (board .entry)) (now (volts .entry)) (now (stored .entry)) r (now (stored .exit)) ⌝ }
+{
+    if all_kept(image, board, lines, volts, stored) {
+        store_all(image, board, lines, volts, stored);
+        return Advanced::Stored;
+    }
+    Advanced::Beyond
+}

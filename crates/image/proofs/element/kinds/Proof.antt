@@ -1,0 +1,61 @@
+-- `image::element::kinds` meets its contract. The array is the padded table as far as the loop has come. Assumes nothing.
+use mathlib.Core.Path.{_≡_, refl}
+use Prim.Native.Nat.{ℕ, _-_, _≤_}
+use native.Mathlib.Omega.{arith}
+use denote.Ref.{now}
+use borrow.Author.Needs.{needs}
+use Rattle.image.specs.Format.{elementAt}
+use Rattle.image.specs.Opened.{padded}
+use Rattle.image.proofs.Tables.{padded-none, padded-more}
+use Rattle.image.proofs.element.kinds.Statement.{statement}
+use Rattle.image.proofs.element.kinds.Tie as tie
+
+abbrev Inv-loop : tie.InvT-loop
+Inv-loop image n a₀ j₀ a j = (j ≤ n) × (a ≡ padded 32 (λ (j : ℕ). elementAt image j .kind) j)
+
+abbrev μ-loop : tie.MeasureT-loop
+μ-loop image n a₀ j₀ a j = n - j
+
+loop-holds : tie.Need-loop-holds Inv-loop μ-loop
+loop-holds c = (search needs, padded-none 32 _)
+
+mul-a : tie.Need-mul-a Inv-loop μ-loop
+mul-a c = search needs
+
+shared-slice-read-a : tie.Need-shared-slice-read-a Inv-loop μ-loop
+shared-slice-read-a c = search needs
+
+array-write-a : tie.Need-array-write-a Inv-loop μ-loop
+array-write-a c = search needs
+
+add-j : tie.Need-add-j Inv-loop μ-loop
+add-j c = search needs
+
+loop-less : tie.Need-loop-less Inv-loop μ-loop
+loop-less c = search needs
+
+loop-again : tie.Need-loop-again Inv-loop μ-loop
+unfolding elementAt
+loop-again c =
+    let l = c .before .before .loop in
+    (search needs, rw (l .inv .1) (padded-more 32 (λ (j : ℕ). elementAt (now (c .before .before .before .args .image)) j .kind) (l .j) _ (omega arith) refl))
+
+returns : tie.Need-returns Inv-loop μ-loop
+returns c =
+    let e : c .before .loop .j ≡ c .before .before .args .n = omega arith in
+    rw (← e) (c .before .loop .inv .1)
+
+pub kinds-spec : {M : Type 1} → statement M
+kinds-spec =
+    tie.close
+    (tie.spec
+    Inv-loop
+    μ-loop
+    loop-holds
+    mul-a
+    shared-slice-read-a
+    array-write-a
+    add-j
+    loop-less
+    loop-again
+    returns)
