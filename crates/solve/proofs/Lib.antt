@@ -1,3 +1,4 @@
+pub mod AnswerLaws
 pub mod ClimbLaws
 pub mod LeapLaws
 pub mod StepLaws

@@ -1,3 +1,4 @@
+pub mod Answer
 pub mod Climb
 pub mod Search
 pub mod Visit

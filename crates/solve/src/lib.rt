@@ -1,4 +1,5 @@
 // The exact search: the highest voltages of a sample, or that there are none.
-pub mod certify;
-pub mod climb;
+pub mod answer;
+mod certify;
+mod climb;
 pub mod settle;
