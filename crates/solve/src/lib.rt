@@ -2,4 +2,5 @@
 pub mod answer;
 mod certify;
 mod climb;
+pub mod sample;
 pub mod settle;
