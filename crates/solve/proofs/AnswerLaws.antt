@@ -58,17 +58,17 @@ module _ (board : List ℕ) (top : Bool) (before : List ℤ) where
     seated-more u above place next =
         let short : i < length after = omega (arith, h .long) in
         record {
-      long = length-set after i u ∙ h .long;
-      ground = ⊎-elim
-          (λ (e : (0 ≡ i) × (reading (set after i u) 0 ≡ u)). absurd (omega (arith, e .0)))
-          (λ (e : (0 ≡ i → ⊥) × (reading (set after i u) 0 ≡ reading after 0)). e .1 ∙ h .ground) (set-law after i 0 u short);
-      driven = λ j l. ⊎-elim
-          (λ (e : (suc j ≡ i) × (reading (set after i u) (suc j) ≡ u)). absurd (omega (arith, e .0)))
-          (λ (e : (suc j ≡ i → ⊥) × (reading (set after i u) (suc j) ≡ reading after (suc j))). e .1 ∙ h .driven j l) (set-law after i (suc j) u short);
-      free = λ j a b. ⊎-elim
-          (λ (e : (j ≡ i) × (reading (set after i u) j ≡ u)). rw (e .1) next)
-          (λ (e : (j ≡ i → ⊥) × (reading (set after i u) j ≡ reading after j)). rw (e .1) (h .free j a (⊎-elim (λ (l : suc j ≤ i). l) (λ (l : i < suc j). absurd (e .0 (omega arith))) (decideN (suc j) i)))) (set-law after i j u short);
-    }
+          long = length-set after i u ∙ h .long;
+          ground = ⊎-elim
+              (λ (e : (0 ≡ i) × (reading (set after i u) 0 ≡ u)). absurd (omega (arith, e .0)))
+              (λ (e : (0 ≡ i → ⊥) × (reading (set after i u) 0 ≡ reading after 0)). e .1 ∙ h .ground) (set-law after i 0 u short);
+          driven = λ j l. ⊎-elim
+              (λ (e : (suc j ≡ i) × (reading (set after i u) (suc j) ≡ u)). absurd (omega (arith, e .0)))
+              (λ (e : (suc j ≡ i → ⊥) × (reading (set after i u) (suc j) ≡ reading after (suc j))). e .1 ∙ h .driven j l) (set-law after i (suc j) u short);
+          free = λ j a b. ⊎-elim
+              (λ (e : (j ≡ i) × (reading (set after i u) j ≡ u)). rw (e .1) next)
+              (λ (e : (j ≡ i → ⊥) × (reading (set after i u) j ≡ reading after j)). rw (e .1) (h .free j a (⊎-elim (λ (l : suc j ≤ i). l) (λ (l : i < suc j). absurd (e .0 (omega arith))) (decideN (suc j) i)))) (set-law after i j u short);
+        }
 
     pub seated-all : nodesOn board < i → Seated board top before after
     seated-all past = record { long = h .long; ground = h .ground; driven = h .driven; free = λ j a b. h .free j a (omega arith) }

@@ -79,14 +79,14 @@ module _ (board : List ℕ) (volts : List ℤ) where
   led-up-more far i u h above place next =
       let short : i < length far = omega (arith, h .long) in
       record {
-    long = length-set far i u ∙ h .long;
-    same = λ j l. ⊎-elim
-        (λ (e : (j ≡ i) × (reading (set far i u) j ≡ u)). absurd (omega (arith, e .0)))
-        (λ (e : (j ≡ i → ⊥) × (reading (set far i u) j ≡ reading far j)). e .1 ∙ h .same j l) (set-law far i j u short);
-    free = λ j a b. ⊎-elim
-        (λ (e : (j ≡ i) × (reading (set far i u) j ≡ u)). rw (e .1, e .0) next)
-        (λ (e : (j ≡ i → ⊥) × (reading (set far i u) j ≡ reading far j)). rw (e .1) (h .free j a (⊎-elim (λ (l : suc j ≤ i). l) (λ (l : i < suc j). absurd (e .0 (omega arith))) (decideN (suc j) i)))) (set-law far i j u short);
-  }
+        long = length-set far i u ∙ h .long;
+        same = λ j l. ⊎-elim
+            (λ (e : (j ≡ i) × (reading (set far i u) j ≡ u)). absurd (omega (arith, e .0)))
+            (λ (e : (j ≡ i → ⊥) × (reading (set far i u) j ≡ reading far j)). e .1 ∙ h .same j l) (set-law far i j u short);
+        free = λ j a b. ⊎-elim
+            (λ (e : (j ≡ i) × (reading (set far i u) j ≡ u)). rw (e .1, e .0) next)
+            (λ (e : (j ≡ i → ⊥) × (reading (set far i u) j ≡ reading far j)). rw (e .1) (h .free j a (⊎-elim (λ (l : suc j ≤ i). l) (λ (l : i < suc j). absurd (e .0 (omega arith))) (decideN (suc j) i)))) (set-law far i j u short);
+      }
 
   pub led-up-all : (far : List ℤ) (i : ℕ) → LedUpTo board volts far i → nodesOn board < i → LedUp board volts far
   led-up-all far i h past = record { long = h .long; same = h .same; free = λ j a b. h .free j a (omega arith) }

@@ -54,14 +54,14 @@ module _ (board : List ℕ) (volts : List ℤ) where
   led-more far i u h above place next =
       let short : i < length far = omega (arith, h .long) in
       record {
-    long = length-set far i u ∙ h .long;
-    same = λ j l. ⊎-elim
-        (λ (e : (j ≡ i) × (reading (set far i u) j ≡ u)). absurd (omega (arith, e .0)))
-        (λ (e : (j ≡ i → ⊥) × (reading (set far i u) j ≡ reading far j)). e .1 ∙ h .same j l) (set-law far i j u short);
-    free = λ j a b. ⊎-elim
-        (λ (e : (j ≡ i) × (reading (set far i u) j ≡ u)). rw (e .1, e .0) next)
-        (λ (e : (j ≡ i → ⊥) × (reading (set far i u) j ≡ reading far j)). rw (e .1) (h .free j a (⊎-elim (λ (l : suc j ≤ i). l) (λ (l : i < suc j). absurd (e .0 (omega arith))) (decideN (suc j) i)))) (set-law far i j u short);
-  }
+        long = length-set far i u ∙ h .long;
+        same = λ j l. ⊎-elim
+            (λ (e : (j ≡ i) × (reading (set far i u) j ≡ u)). absurd (omega (arith, e .0)))
+            (λ (e : (j ≡ i → ⊥) × (reading (set far i u) j ≡ reading far j)). e .1 ∙ h .same j l) (set-law far i j u short);
+        free = λ j a b. ⊎-elim
+            (λ (e : (j ≡ i) × (reading (set far i u) j ≡ u)). rw (e .1, e .0) next)
+            (λ (e : (j ≡ i → ⊥) × (reading (set far i u) j ≡ reading far j)). rw (e .1) (h .free j a (⊎-elim (λ (l : suc j ≤ i). l) (λ (l : i < suc j). absurd (e .0 (omega arith))) (decideN (suc j) i)))) (set-law far i j u short);
+      }
 
   pub led-all : (far : List ℤ) (i : ℕ) → LedTo board volts far i → nodesOn board < i → Led board volts far
   led-all far i h past = record { long = h .long; same = h .same; free = λ j a b. h .free j a (omega arith) }
@@ -103,18 +103,18 @@ module _ (image board : List ℕ) (lines stored volts s : List ℤ) (led : Led b
         let u = reading e i -ℤ pos 1 in
         let short : i < length e = omega (arith, h .long, ready .limits .few-nodes, free .1) in
         record {
-      long = length-set e i u ∙ h .long;
-      ranged = ranged-set board e i u short (h .ranged) inside;
-      sank = sunk-list (networkOn image board) (reading stored) (reading s) e i short free high (h .sank);
-      falls = λ j l. ⊎-elim
-          (λ (q : (j ≡ i) × (reading (set e i u) j ≡ u)). rw (q .1, q .0) (inr (omega (signs, h .later i (omega arith), sub-law (reading e i) (pos 1), pos-law 1))))
-          (λ (q : (j ≡ i → ⊥) × (reading (set e i u) j ≡ reading e j)). rw (q .1) (h .falls j (⊎-elim (λ (m : suc j ≤ i). m) (λ (m : i < suc j). absurd (q .0 (omega arith))) (decideN (suc j) i))))
-          (set-law e i j u short);
-      later = λ j l. ⊎-elim
-          (λ (q : (j ≡ i) × (reading (set e i u) j ≡ u)). absurd (omega (arith, q .0)))
-          (λ (q : (j ≡ i → ⊥) × (reading (set e i u) j ≡ reading e j)). q .1 ∙ h .later j (omega arith))
-          (set-law e i j u short);
-    }
+          long = length-set e i u ∙ h .long;
+          ranged = ranged-set board e i u short (h .ranged) inside;
+          sank = sunk-list (networkOn image board) (reading stored) (reading s) e i short free high (h .sank);
+          falls = λ j l. ⊎-elim
+              (λ (q : (j ≡ i) × (reading (set e i u) j ≡ u)). rw (q .1, q .0) (inr (omega (signs, h .later i (omega arith), sub-law (reading e i) (pos 1), pos-law 1))))
+              (λ (q : (j ≡ i → ⊥) × (reading (set e i u) j ≡ reading e j)). rw (q .1) (h .falls j (⊎-elim (λ (m : suc j ≤ i). m) (λ (m : i < suc j). absurd (q .0 (omega arith))) (decideN (suc j) i))))
+              (set-law e i j u short);
+          later = λ j l. ⊎-elim
+              (λ (q : (j ≡ i) × (reading (set e i u) j ≡ u)). absurd (omega (arith, q .0)))
+              (λ (q : (j ≡ i → ⊥) × (reading (set e i u) j ≡ reading e j)). q .1 ∙ h .later j (omega arith))
+              (set-law e i j u short);
+        }
       where
         -- a node that leapt was led above the very bottom
         over : bottom <ℤ reading s i

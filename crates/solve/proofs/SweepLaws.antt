@@ -66,10 +66,13 @@ module _ (image board : List ℕ) (stored before : List ℤ) where
     pub swept-still : (next ≡ after) × LowAt image board stored after i → Swept image board stored before next moved (i + 1)
     swept-still h = subst (λ (l : List ℤ). Swept image board stored before l moved (i + 1)) (sym (h .0)) (record {
       down = s .down;
-      still = λ e. (s .still e .0, λ j free l. ⊎-elim
-          (λ (m : suc j ≤ i). s .still e .1 j free m)
-          (λ (m : i < suc j). let e2 : j ≡ i = omega arith in rw e2 (subst (λ (l : List ℤ). LowAt image board stored l i) (s .still e .0) (h .1)))
-          (decideN (suc j) i));
+      still = λ e. (
+        s .still e .0,
+        λ j free l. ⊎-elim
+            (λ (m : suc j ≤ i). s .still e .1 j free m)
+            (λ (m : i < suc j). let e2 : j ≡ i = omega arith in rw e2 (subst (λ (l : List ℤ). LowAt image board stored l i) (s .still e .0) (h .1)))
+            (decideN (suc j) i),
+      );
       falls = s .falls;
     })
 

@@ -65,14 +65,14 @@ module _ (board : List ℕ) (volts : List ℤ) where
       let u = oneUp (reading volts i) in
       let short : i < length s = omega (arith, h .long) in
       record {
-    long = length-set s i u ∙ h .long;
-    same = λ j l. ⊎-elim
-        (λ (e : (j ≡ i) × (reading (set s i u) j ≡ u)). absurd (omega (arith, e .0)))
-        (λ (e : (j ≡ i → ⊥) × (reading (set s i u) j ≡ reading s j)). e .1 ∙ h .same j l) (set-law s i j u short);
-    free = λ j a b. ⊎-elim
-        (λ (e : (j ≡ i) × (reading (set s i u) j ≡ u)). rw (e .1, e .0) refl)
-        (λ (e : (j ≡ i → ⊥) × (reading (set s i u) j ≡ reading s j)). rw (e .1) (h .free j a (⊎-elim (λ (l : suc j ≤ i). l) (λ (l : i < suc j). absurd (e .0 (omega arith))) (decideN (suc j) i)))) (set-law s i j u short);
-  }
+        long = length-set s i u ∙ h .long;
+        same = λ j l. ⊎-elim
+            (λ (e : (j ≡ i) × (reading (set s i u) j ≡ u)). absurd (omega (arith, e .0)))
+            (λ (e : (j ≡ i → ⊥) × (reading (set s i u) j ≡ reading s j)). e .1 ∙ h .same j l) (set-law s i j u short);
+        free = λ j a b. ⊎-elim
+            (λ (e : (j ≡ i) × (reading (set s i u) j ≡ u)). rw (e .1, e .0) refl)
+            (λ (e : (j ≡ i → ⊥) × (reading (set s i u) j ≡ reading s j)). rw (e .1) (h .free j a (⊎-elim (λ (l : suc j ≤ i). l) (λ (l : i < suc j). absurd (e .0 (omega arith))) (decideN (suc j) i)))) (set-law s i j u short);
+      }
 
   pub raised-all : (s : List ℤ) (i : ℕ) → RaisedTo board volts s i → nodesOn board < i → Raised board volts s
   raised-all s i h past = record { long = h .long; same = h .same; free = λ j a b. h .free j a (omega arith) }
@@ -187,10 +187,15 @@ module _ (image board : List ℕ) (lines stored volts before : List ℤ) where
             (λ (q : (j ≡ i) × (reading (set after i (reading volts i)) j ≡ reading volts i)). q .1 ∙ ap (reading volts) (sym (q .0)))
             (λ (q : (j ≡ i → ⊥) × (reading (set after i (reading volts i)) j ≡ reading after j)). q .1 ∙ ⊎-elim (λ (m : j ≡ i). absurd (q .0 m)) (λ (m : i < j). h .back e j f m) (turn j l))
             (set-law after i j (reading volts i) short);
-        waiting = λ n. let w = h .waiting n in (w .0, w .1, omega (arith, w .2), ⊎-elim
-            (λ (q : (w .0 ≡ i) × (reading (set after i (reading volts i)) (w .0) ≡ reading volts i)). absurd (omega (arith, q .0, w .2)))
-            (λ (q : (w .0 ≡ i → ⊥) × (reading (set after i (reading volts i)) (w .0) ≡ reading after (w .0))). rw (q .1) (w .3))
-            (set-law after i (w .0) (reading volts i) short));
+        waiting = λ n. let w = h .waiting n in (
+          w .0,
+          w .1,
+          omega (arith, w .2),
+          ⊎-elim
+              (λ (q : (w .0 ≡ i) × (reading (set after i (reading volts i)) (w .0) ≡ reading volts i)). absurd (omega (arith, q .0, w .2)))
+              (λ (q : (w .0 ≡ i → ⊥) × (reading (set after i (reading volts i)) (w .0) ≡ reading after (w .0))). rw (q .1) (w .3))
+              (set-law after i (w .0) (reading volts i) short),
+        );
       }
 
     pub pass-goes : (next : List ℤ) → (next ≡ set after i (reading volts i)) × (reading volts i <ℤ reading after i) × (pos 0 <ℤ net 1 (networkOn image board) (reading stored) (reading after) i) → PassTo image board lines stored volts before next 1 wait (i - 1)
@@ -220,11 +225,11 @@ module _ (image board : List ℕ) (lines stored volts s : List ℤ) (v : Visitin
   judged-higher w sticks =
       let over = visit-over (networkOn image board) (reading stored) (reading volts) (reading s) (v .visit) in
       record {
-    up = record {
-      long = v .long;
-      ranged = v .evaluable .ranged;
-      over = over;
-      low = λ d legal low. stuck (networkOn image board) (reading stored) d (reading volts) (v .evaluable .ready .limits .wired) legal low (reading s) (v .visit) sticks;
-    };
-    falls = depth-falls (networkOn image board) (reading s) (reading volts) (w .node) (w .free .1) over (w .waits) (omega (signs, v .evaluable .ranged (w .node) (w .free .1), abs-law (reading s (w .node)), pos-law voltageLimit));
-  }
+        up = record {
+          long = v .long;
+          ranged = v .evaluable .ranged;
+          over = over;
+          low = λ d legal low. stuck (networkOn image board) (reading stored) d (reading volts) (v .evaluable .ready .limits .wired) legal low (reading s) (v .visit) sticks;
+        };
+        falls = depth-falls (networkOn image board) (reading s) (reading volts) (w .node) (w .free .1) over (w .waits) (omega (signs, v .evaluable .ranged (w .node) (w .free .1), abs-law (reading s (w .node)), pos-law voltageLimit));
+      }

@@ -1,10 +1,10 @@
 // Solve: the highest voltages of a sample, or that there are none in range. The driven nodes stand at
 // their drives; what stands at the free nodes is a proposal, of which nothing is asked and on which
 // nothing of the answer depends.
-use circuit::board;
-use circuit::node;
 use crate::climb;
 use crate::settle;
+use circuit::board;
+use circuit::node;
 use units::signed;
 use units::voltage::Voltage;
 ghost use mathlib.Core.Path.{_≡_};
@@ -58,7 +58,13 @@ fn seat(board: &[u64; 164], top: bool, volts: &mut [i64; 16])
 
 // Whether no low assignment passes these voltages, by document 01's test of a start: net current at or
 // above zero at each free node.
-fn is_start(image: &[u8], board: &[u64; 164], lines: &[i64; 136], stored: &[i64; 32], volts: &[i64; 16]) -> bool
+fn is_start(
+    image: &[u8],
+    board: &[u64; 164],
+    lines: &[i64; 136],
+    stored: &[i64; 32],
+    volts: &[i64; 16],
+) -> bool
     requires { ⌜ Evaluable (now image) (now board) (now lines) (now stored) (now volts) ⌝ }
     ensures { λ r. ⌜ (r ≡ true → Start (now (image .entry)) (now (board .entry)) (now (stored .entry)) (now (volts .entry))) ⌝ }
 {
@@ -74,7 +80,14 @@ fn is_start(image: &[u8], board: &[u64; 164], lines: &[i64; 136], stored: &[i64;
 }
 
 // From the top of the range.
-fn from_top(image: &[u8], board: &[u64; 164], lines: &[i64; 136], stored: &[i64; 32], steep: &[u64; 16], volts: &mut [i64; 16]) -> settle::Rest
+fn from_top(
+    image: &[u8],
+    board: &[u64; 164],
+    lines: &[i64; 136],
+    stored: &[i64; 32],
+    steep: &[u64; 16],
+    volts: &mut [i64; 16],
+) -> settle::Rest
     requires { ⌜ Evaluable (now image) (now board) (now lines) (now stored) (now volts) × Steep (now image) (now board) (now steep) ⌝ }
     ensures { λ r. ⌜ Ended (now (image .entry)) (now (board .entry)) (now (stored .entry)) (now (volts .entry)) (now (volts .exit)) r ⌝ }
 {
@@ -84,7 +97,14 @@ fn from_top(image: &[u8], board: &[u64; 164], lines: &[i64; 136], stored: &[i64;
 
 // From voltages in range: settled, certified, climbed. Where there is nothing below them, that decides
 // only if they are a start; else the top of the range does.
-fn from_proposal(image: &[u8], board: &[u64; 164], lines: &[i64; 136], stored: &[i64; 32], steep: &[u64; 16], volts: &mut [i64; 16]) -> settle::Rest
+fn from_proposal(
+    image: &[u8],
+    board: &[u64; 164],
+    lines: &[i64; 136],
+    stored: &[i64; 32],
+    steep: &[u64; 16],
+    volts: &mut [i64; 16],
+) -> settle::Rest
     requires { ⌜ Searching (now image) (now board) (now lines) (now stored) (now steep) (now volts) ⌝ }
     ensures { λ r. ⌜ Ended (now (image .entry)) (now (board .entry)) (now (stored .entry)) (now (volts .entry)) (now (volts .exit)) r ⌝ }
 {
@@ -105,7 +125,14 @@ fn from_proposal(image: &[u8], board: &[u64; 164], lines: &[i64; 136], stored: &
 }
 
 // The answer at the nodes, or that there is none.
-pub fn solve(image: &[u8], board: &[u64; 164], lines: &[i64; 136], stored: &[i64; 32], steep: &[u64; 16], volts: &mut [i64; 16]) -> settle::Rest
+pub fn solve(
+    image: &[u8],
+    board: &[u64; 164],
+    lines: &[i64; 136],
+    stored: &[i64; 32],
+    steep: &[u64; 16],
+    volts: &mut [i64; 16],
+) -> settle::Rest
     requires { ⌜ Solvable (now image) (now board) (now lines) (now stored) (now steep) (now volts) ⌝ }
     ensures { λ r. ⌜ Solved (now (image .entry)) (now (board .entry)) (now (stored .entry)) (now (volts .entry)) (now (volts .exit)) r ⌝ }
 {

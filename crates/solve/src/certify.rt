@@ -59,7 +59,15 @@ fn lift(board: &[u64; 164], volts: &[i64; 16], s: &mut [i64; 16])
 }
 
 // One node's turn.
-fn visit_at(image: &[u8], board: &[u64; 164], lines: &[i64; 136], stored: &[i64; 32], volts: &[i64; 16], s: &mut [i64; 16], i: usize) -> Turn
+fn visit_at(
+    image: &[u8],
+    board: &[u64; 164],
+    lines: &[i64; 136],
+    stored: &[i64; 32],
+    volts: &[i64; 16],
+    s: &mut [i64; 16],
+    i: usize,
+) -> Turn
     requires { ⌜ Evaluable (now image) (now board) (now lines) (now stored) (now s) × Free (networkOn (now image) (now board)) i ⌝ }
     ensures { λ r. ⌜ VisitedAt (now (image .entry)) (now (board .entry)) (now (stored .entry)) (now (volts .entry)) (now (s .entry)) (now (s .exit)) i r ⌝ }
 {
@@ -75,7 +83,14 @@ fn visit_at(image: &[u8], board: &[u64; 164], lines: &[i64; 136], stored: &[i64;
 }
 
 // One pass, in the order opposite to a sweep's.
-fn pass(image: &[u8], board: &[u64; 164], lines: &[i64; 136], stored: &[i64; 32], volts: &[i64; 16], s: &mut [i64; 16]) -> Round
+fn pass(
+    image: &[u8],
+    board: &[u64; 164],
+    lines: &[i64; 136],
+    stored: &[i64; 32],
+    volts: &[i64; 16],
+    s: &mut [i64; 16],
+) -> Round
     requires { ⌜ Visiting (now image) (now board) (now lines) (now stored) (now volts) (now s) ⌝ }
     ensures { λ r. ⌜ Visiting (now (image .entry)) (now (board .entry)) (now (lines .entry)) (now (stored .entry)) (now (volts .entry)) (now (s .exit)) × Passed (now (image .entry)) (now (board .entry)) (now (stored .entry)) (now (volts .entry)) (now (s .entry)) (now (s .exit)) r ⌝ }
 {
@@ -108,7 +123,14 @@ fn pass(image: &[u8], board: &[u64; 164], lines: &[i64; 136], stored: &[i64; 32]
 }
 
 // The whole visit for `volts`; s begins as a copy of them, and is the higher one if there is one.
-pub fn certify(image: &[u8], board: &[u64; 164], lines: &[i64; 136], stored: &[i64; 32], volts: &[i64; 16], s: &mut [i64; 16]) -> Verdict
+pub fn certify(
+    image: &[u8],
+    board: &[u64; 164],
+    lines: &[i64; 136],
+    stored: &[i64; 32],
+    volts: &[i64; 16],
+    s: &mut [i64; 16],
+) -> Verdict
     requires { ⌜ Evaluable (now image) (now board) (now lines) (now stored) (now volts) × Places (now board) (now volts) × (now s ≡ now volts) ⌝ }
     ensures { λ r. ⌜ Judged (now (image .entry)) (now (board .entry)) (now (stored .entry)) (now (volts .entry)) (now (s .exit)) r ⌝ }
 {

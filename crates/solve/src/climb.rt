@@ -1,9 +1,9 @@
 // Climb: from a low assignment up to the greatest. Certify says whether it is that, or where there is
 // a higher one; from there the nodes that rose leap on together, and then each by itself.
-use circuit::board;
-use circuit::node;
 use crate::certify;
 use crate::settle;
+use circuit::board;
+use circuit::node;
 use units::signed;
 use units::voltage::Voltage;
 ghost use mathlib.Core.Path.{_≡_};
@@ -52,7 +52,15 @@ fn lead_up(board: &[u64; 164], from: &[i64; 16], volts: &[i64; 16], m: u64, far:
 }
 
 // Whether a node, if it rose, has no net current above zero.
-fn fits_at(image: &[u8], board: &[u64; 164], lines: &[i64; 136], stored: &[i64; 32], volts: &[i64; 16], far: &[i64; 16], i: usize) -> bool
+fn fits_at(
+    image: &[u8],
+    board: &[u64; 164],
+    lines: &[i64; 136],
+    stored: &[i64; 32],
+    volts: &[i64; 16],
+    far: &[i64; 16],
+    i: usize,
+) -> bool
     requires { ⌜ Evaluable (now image) (now board) (now lines) (now stored) (now far) × Free (networkOn (now image) (now board)) i ⌝ }
     ensures { λ r. ⌜ (r ≡ true → FitsAt (now (image .entry)) (now (board .entry)) (now (stored .entry)) (now (volts .entry)) (now (far .entry)) i) ⌝ }
 {
@@ -63,7 +71,14 @@ fn fits_at(image: &[u8], board: &[u64; 164], lines: &[i64; 136], stored: &[i64; 
 }
 
 // Whether no node that rose has.
-fn fits(image: &[u8], board: &[u64; 164], lines: &[i64; 136], stored: &[i64; 32], volts: &[i64; 16], far: &[i64; 16]) -> bool
+fn fits(
+    image: &[u8],
+    board: &[u64; 164],
+    lines: &[i64; 136],
+    stored: &[i64; 32],
+    volts: &[i64; 16],
+    far: &[i64; 16],
+) -> bool
     requires { ⌜ Evaluable (now image) (now board) (now lines) (now stored) (now far) ⌝ }
     ensures { λ r. ⌜ (r ≡ true → Fits (now (image .entry)) (now (board .entry)) (now (stored .entry)) (now (volts .entry)) (now (far .entry))) ⌝ }
 {
@@ -80,7 +95,16 @@ fn fits(image: &[u8], board: &[u64; 164], lines: &[i64; 136], stored: &[i64; 32]
 }
 
 // The nodes that rose from `from` to `volts` raised m times as much again, if that fits. Whether it did.
-fn leap_up(image: &[u8], board: &[u64; 164], lines: &[i64; 136], stored: &[i64; 32], steep: &[u64; 16], from: &[i64; 16], m: u64, volts: &mut [i64; 16]) -> bool
+fn leap_up(
+    image: &[u8],
+    board: &[u64; 164],
+    lines: &[i64; 136],
+    stored: &[i64; 32],
+    steep: &[u64; 16],
+    from: &[i64; 16],
+    m: u64,
+    volts: &mut [i64; 16],
+) -> bool
     requires { ⌜ Searching (now image) (now board) (now lines) (now stored) (now steep) (now volts) × Ranged (now board) (now from) × (m ≤ 2 ^ 26) ⌝ }
     ensures { λ r. ⌜ Up (now (image .entry)) (now (board .entry)) (now (stored .entry)) (now (volts .entry)) (now (volts .exit)) ⌝ }
 {
@@ -94,7 +118,15 @@ fn leap_up(image: &[u8], board: &[u64; 164], lines: &[i64; 136], stored: &[i64; 
 }
 
 // Leaps of one, two, four .. times what was gained, as long as they fit.
-fn leaps_up(image: &[u8], board: &[u64; 164], lines: &[i64; 136], stored: &[i64; 32], steep: &[u64; 16], from: &[i64; 16], volts: &mut [i64; 16])
+fn leaps_up(
+    image: &[u8],
+    board: &[u64; 164],
+    lines: &[i64; 136],
+    stored: &[i64; 32],
+    steep: &[u64; 16],
+    from: &[i64; 16],
+    volts: &mut [i64; 16],
+)
     requires { ⌜ Searching (now image) (now board) (now lines) (now stored) (now steep) (now volts) × Ranged (now board) (now from) ⌝ }
     ensures { λ _. ⌜ Up (now (image .entry)) (now (board .entry)) (now (stored .entry)) (now (volts .entry)) (now (volts .exit)) ⌝ }
 {
@@ -121,7 +153,15 @@ fn raise_by(v: i64, f: i64, s: u64) -> i64
 }
 
 // One node raised by as much as its steepest sum allows, where its net current is not above zero.
-fn rise_at(image: &[u8], board: &[u64; 164], lines: &[i64; 136], stored: &[i64; 32], steep: &[u64; 16], volts: &mut [i64; 16], i: usize) -> Ascent
+fn rise_at(
+    image: &[u8],
+    board: &[u64; 164],
+    lines: &[i64; 136],
+    stored: &[i64; 32],
+    steep: &[u64; 16],
+    volts: &mut [i64; 16],
+    i: usize,
+) -> Ascent
     requires { ⌜ Searching (now image) (now board) (now lines) (now stored) (now steep) (now volts) × Free (networkOn (now image) (now board)) i ⌝ }
     ensures { λ r. ⌜ Rose (now (image .entry)) (now (board .entry)) (now (stored .entry)) (now (volts .entry)) (now (volts .exit)) r ⌝ }
 {
@@ -139,7 +179,14 @@ fn rise_at(image: &[u8], board: &[u64; 164], lines: &[i64; 136], stored: &[i64; 
 }
 
 // So every free node, in the order of their numbers.
-fn rise(image: &[u8], board: &[u64; 164], lines: &[i64; 136], stored: &[i64; 32], steep: &[u64; 16], volts: &mut [i64; 16]) -> Ascent
+fn rise(
+    image: &[u8],
+    board: &[u64; 164],
+    lines: &[i64; 136],
+    stored: &[i64; 32],
+    steep: &[u64; 16],
+    volts: &mut [i64; 16],
+) -> Ascent
     requires { ⌜ Searching (now image) (now board) (now lines) (now stored) (now steep) (now volts) ⌝ }
     ensures { λ r. ⌜ Rose (now (image .entry)) (now (board .entry)) (now (stored .entry)) (now (volts .entry)) (now (volts .exit)) r ⌝ }
 {
@@ -164,7 +211,14 @@ fn rise(image: &[u8], board: &[u64; 164], lines: &[i64; 136], stored: &[i64; 32]
 }
 
 // Until none rises.
-fn ascend(image: &[u8], board: &[u64; 164], lines: &[i64; 136], stored: &[i64; 32], steep: &[u64; 16], volts: &mut [i64; 16])
+fn ascend(
+    image: &[u8],
+    board: &[u64; 164],
+    lines: &[i64; 136],
+    stored: &[i64; 32],
+    steep: &[u64; 16],
+    volts: &mut [i64; 16],
+)
     requires { ⌜ Searching (now image) (now board) (now lines) (now stored) (now steep) (now volts) ⌝ }
     ensures { λ _. ⌜ Up (now (image .entry)) (now (board .entry)) (now (stored .entry)) (now (volts .entry)) (now (volts .exit)) ⌝ }
 {
@@ -183,7 +237,14 @@ fn ascend(image: &[u8], board: &[u64; 164], lines: &[i64; 136], stored: &[i64; 3
 }
 
 // Climb: certified, or higher and certified again.
-pub fn climb(image: &[u8], board: &[u64; 164], lines: &[i64; 136], stored: &[i64; 32], steep: &[u64; 16], volts: &mut [i64; 16])
+pub fn climb(
+    image: &[u8],
+    board: &[u64; 164],
+    lines: &[i64; 136],
+    stored: &[i64; 32],
+    steep: &[u64; 16],
+    volts: &mut [i64; 16],
+)
     requires { ⌜ Searching (now image) (now board) (now lines) (now stored) (now steep) (now volts) ⌝ }
     ensures { λ _. ⌜ Topped (now (image .entry)) (now (board .entry)) (now (stored .entry)) (now (volts .entry)) (now (volts .exit)) ⌝ }
 {

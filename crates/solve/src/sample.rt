@@ -1,9 +1,9 @@
 // One sample: its drives tested, its voltages found, its stored currents advanced. Each refusal leaves
 // the stored currents as they were.
-use circuit::advance;
-use circuit::board;
 use crate::answer;
 use crate::settle;
+use circuit::advance;
+use circuit::board;
 use units::signed;
 use units::voltage::Voltage;
 ghost use mathlib.Core.Path.{_≡_};
@@ -29,7 +29,9 @@ fn drives_legal(board: &[u64; 164], volts: &[i64; 16]) -> bool
     let driven = board::driven(board);
     let mut j: usize = 0;
     while j < driven {
-        let v = Voltage { microvolts: volts[j + 1] };
+        let v = Voltage {
+            microvolts: volts[j + 1],
+        };
         if v.in_drive() {
             j += 1;
         } else {
@@ -57,7 +59,14 @@ fn at_top(board: &[u64; 164], volts: &[i64; 16]) -> bool
 }
 
 // A sample whose drives are legal.
-fn voiced(image: &[u8], board: &[u64; 164], lines: &[i64; 136], steep: &[u64; 16], volts: &mut [i64; 16], stored: &mut [i64; 32]) -> Outcome
+fn voiced(
+    image: &[u8],
+    board: &[u64; 164],
+    lines: &[i64; 136],
+    steep: &[u64; 16],
+    volts: &mut [i64; 16],
+    stored: &mut [i64; 32],
+) -> Outcome
     requires { ⌜ Given (now image) (now board) (now lines) (now steep) (now stored) × DrivesTested (now board) (now volts) true ⌝ }
     ensures { λ r. ⌜ Sampled (now (image .entry)) (now (board .entry)) (now (volts .entry)) (now (stored .entry)) (now (volts .exit)) (now (stored .exit)) r ⌝ }
 {
@@ -76,7 +85,14 @@ fn voiced(image: &[u8], board: &[u64; 164], lines: &[i64; 136], steep: &[u64; 16
 }
 
 // The driven nodes stand at the sample's drives; the free nodes at any proposal.
-pub fn sample(image: &[u8], board: &[u64; 164], lines: &[i64; 136], steep: &[u64; 16], volts: &mut [i64; 16], stored: &mut [i64; 32]) -> Outcome
+pub fn sample(
+    image: &[u8],
+    board: &[u64; 164],
+    lines: &[i64; 136],
+    steep: &[u64; 16],
+    volts: &mut [i64; 16],
+    stored: &mut [i64; 32],
+) -> Outcome
     requires { ⌜ Given (now image) (now board) (now lines) (now steep) (now stored) ⌝ }
     ensures { λ r. ⌜ Sampled (now (image .entry)) (now (board .entry)) (now (volts .entry)) (now (stored .entry)) (now (volts .exit)) (now (stored .exit)) r ⌝ }
 {

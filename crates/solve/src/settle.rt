@@ -55,7 +55,15 @@ fn lower_by(v: i64, f: i64, s: u64) -> i64
 }
 
 // Step: one node lowered by as much as its steepest sum allows, where its net current is above zero.
-fn step(image: &[u8], board: &[u64; 164], lines: &[i64; 136], stored: &[i64; 32], steep: &[u64; 16], volts: &mut [i64; 16], i: usize) -> Fall
+fn step(
+    image: &[u8],
+    board: &[u64; 164],
+    lines: &[i64; 136],
+    stored: &[i64; 32],
+    steep: &[u64; 16],
+    volts: &mut [i64; 16],
+    i: usize,
+) -> Fall
     requires { ⌜ Searching (now image) (now board) (now lines) (now stored) (now steep) (now volts) × Free (networkOn (now image) (now board)) i ⌝ }
     ensures { λ r. ⌜ Went (LowAt (now (image .entry)) (now (board .entry)) (now (stored .entry)) (now (volts .entry)) i) (now (image .entry)) (now (board .entry)) (now (stored .entry)) (now (volts .entry)) (now (volts .exit)) r ⌝ }
 {
@@ -73,7 +81,14 @@ fn step(image: &[u8], board: &[u64; 164], lines: &[i64; 136], stored: &[i64; 32]
 }
 
 // A step at every free node, in the order of their numbers.
-fn sweep(image: &[u8], board: &[u64; 164], lines: &[i64; 136], stored: &[i64; 32], steep: &[u64; 16], volts: &mut [i64; 16]) -> Fall
+fn sweep(
+    image: &[u8],
+    board: &[u64; 164],
+    lines: &[i64; 136],
+    stored: &[i64; 32],
+    steep: &[u64; 16],
+    volts: &mut [i64; 16],
+) -> Fall
     requires { ⌜ Searching (now image) (now board) (now lines) (now stored) (now steep) (now volts) ⌝ }
     ensures { λ r. ⌜ Went (Low (networkOn (now (image .entry)) (now (board .entry))) (reading (now (stored .entry))) (reading (now (volts .entry)))) (now (image .entry)) (now (board .entry)) (now (stored .entry)) (now (volts .entry)) (now (volts .exit)) r ⌝ }
 {
@@ -137,15 +152,23 @@ fn lead(board: &[u64; 164], from: &[i64; 16], volts: &[i64; 16], m: u64, far: &m
 
 // One node at the far end of a leap: as it is if it didn't leap, else lowered by one, its net
 // current being above zero. False if it isn't.
-fn sink_at(image: &[u8], board: &[u64; 164], lines: &[i64; 136], stored: &[i64; 32], volts: &[i64; 16], far: &mut [i64; 16], i: usize) -> bool
+fn sink_at(
+    image: &[u8],
+    board: &[u64; 164],
+    lines: &[i64; 136],
+    stored: &[i64; 32],
+    volts: &[i64; 16],
+    far: &mut [i64; 16],
+    i: usize,
+) -> bool
     requires { ⌜ Evaluable (now image) (now board) (now lines) (now stored) (now far) × Free (networkOn (now image) (now board)) i ⌝ }
     ensures { λ r. ⌜ (r ≡ true → SunkAt (now (image .entry)) (now (board .entry)) (now (stored .entry)) (now (volts .entry)) (now (far .entry)) (now (far .exit)) i) ⌝ }
 {
     if signed::at_most(volts[i], far[i]) {
         return true;
     }
-    let f = node::net_current(image, board, lines, stored, far, i);
-    if signed::at_most(f, 0) {
+    let g = node::net_current(image, board, lines, stored, far, i);
+    if signed::at_most(g, 0) {
         return false;
     }
     far[i] = signed::minus(far[i], 1);
@@ -153,7 +176,14 @@ fn sink_at(image: &[u8], board: &[u64; 164], lines: &[i64; 136], stored: &[i64; 
 }
 
 // The sweep at the far end, which is what proves a leap. False as soon as a node doesn't sink.
-fn sink(image: &[u8], board: &[u64; 164], lines: &[i64; 136], stored: &[i64; 32], volts: &[i64; 16], far: &mut [i64; 16]) -> bool
+fn sink(
+    image: &[u8],
+    board: &[u64; 164],
+    lines: &[i64; 136],
+    stored: &[i64; 32],
+    volts: &[i64; 16],
+    far: &mut [i64; 16],
+) -> bool
     requires { ⌜ Evaluable (now image) (now board) (now lines) (now stored) (now far) × Led (now board) (now volts) (now far) ⌝ }
     ensures { λ r. ⌜ (r ≡ true → Sinks (now (image .entry)) (now (board .entry)) (now (stored .entry)) (now (volts .entry)) (now (far .entry)) (now (far .exit))) ⌝ }
 {
@@ -171,7 +201,16 @@ fn sink(image: &[u8], board: &[u64; 164], lines: &[i64; 136], stored: &[i64; 32]
 
 // Leap: the nodes that fell from `from` to `volts` lowered m times as much again, if the sweep at
 // the far end proves it. Whether it did.
-fn leap(image: &[u8], board: &[u64; 164], lines: &[i64; 136], stored: &[i64; 32], steep: &[u64; 16], from: &[i64; 16], m: u64, volts: &mut [i64; 16]) -> bool
+fn leap(
+    image: &[u8],
+    board: &[u64; 164],
+    lines: &[i64; 136],
+    stored: &[i64; 32],
+    steep: &[u64; 16],
+    from: &[i64; 16],
+    m: u64,
+    volts: &mut [i64; 16],
+) -> bool
     requires { ⌜ Searching (now image) (now board) (now lines) (now stored) (now steep) (now volts) × Ranged (now board) (now from) × (m ≤ 2 ^ 26) ⌝ }
     ensures { λ r. ⌜ Down (now (image .entry)) (now (board .entry)) (now (stored .entry)) (now (volts .entry)) (now (volts .exit)) ⌝ }
 {
@@ -185,7 +224,15 @@ fn leap(image: &[u8], board: &[u64; 164], lines: &[i64; 136], stored: &[i64; 32]
 }
 
 // Leaps of one, two, four .. times what the last sweep brought, as long as they hold.
-fn leaps(image: &[u8], board: &[u64; 164], lines: &[i64; 136], stored: &[i64; 32], steep: &[u64; 16], from: &[i64; 16], volts: &mut [i64; 16])
+fn leaps(
+    image: &[u8],
+    board: &[u64; 164],
+    lines: &[i64; 136],
+    stored: &[i64; 32],
+    steep: &[u64; 16],
+    from: &[i64; 16],
+    volts: &mut [i64; 16],
+)
     requires { ⌜ Searching (now image) (now board) (now lines) (now stored) (now steep) (now volts) × Ranged (now board) (now from) ⌝ }
     ensures { λ _. ⌜ Down (now (image .entry)) (now (board .entry)) (now (stored .entry)) (now (volts .entry)) (now (volts .exit)) ⌝ }
 {
@@ -200,7 +247,14 @@ fn leaps(image: &[u8], board: &[u64; 164], lines: &[i64; 136], stored: &[i64; 32
 }
 
 // Settle: sweeps and leaps until no net current is above zero.
-pub fn settle(image: &[u8], board: &[u64; 164], lines: &[i64; 136], stored: &[i64; 32], steep: &[u64; 16], volts: &mut [i64; 16]) -> Rest
+pub fn settle(
+    image: &[u8],
+    board: &[u64; 164],
+    lines: &[i64; 136],
+    stored: &[i64; 32],
+    steep: &[u64; 16],
+    volts: &mut [i64; 16],
+) -> Rest
     requires { ⌜ Evaluable (now image) (now board) (now lines) (now stored) (now volts) × Steep (now image) (now board) (now steep) ⌝ }
     ensures { λ r. ⌜ Came (now (image .entry)) (now (board .entry)) (now (stored .entry)) (now (volts .entry)) (now (volts .exit)) r ⌝ }
 {

@@ -11,8 +11,7 @@ settle-requires : tie.Need-settle-requires
 settle-requires c κs =
     let s = c .before .before .before .before in
     let a = s .args in
-    let e = s .pre .0 in
-    (
+    let e = s .pre .0 in (
       record { ready = e .ready; kept = e .kept; ranged = seated-ranged (a .image .now) (a .board .now) true (a .volts .now) (c .before .seat .last .1 .1 .0) (c .before .seat .ensures) (e .ranged) (e .ready .limits .wired .driven-there) },
       s .pre .1,
     )

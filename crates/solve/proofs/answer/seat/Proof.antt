@@ -39,8 +39,7 @@ loop-holds : tie.Need-loop-holds Inv-loop μ-loop
 loop-holds c =
     let s = c .before .before .before .before in
     let a = s .args in
-    let k = c .before .before .copied .ensures in
-    (
+    let k = c .before .before .copied .ensures in (
       omega (arith, c .driven .ensures),
       omega (arith, c .driven .ensures, c .before .nodes .ensures, s .pre .1),
       rw (c .driven .ensures, k .0) (seated-none (a .board .now) (a .top) (a .volts .now) (k .1)),

@@ -31,8 +31,7 @@ add-i c = let s = c .before .before in record { fits = omega (arith, c .driven .
 loop-holds : tie.Need-loop-holds Inv-loop μ-loop
 loop-holds c =
     let s = c .before .before in
-    let a = s .args in
-    (
+    let a = s .args in (
       omega (arith, c .driven .ensures),
       omega (arith, c .driven .ensures, c .before .nodes .ensures, s .pre .0 .driven-there),
       rw (c .driven .ensures) (raised-none (a .board .now) (a .volts .now) (a .s .now) (s .pre .0 .long) (s .pre .1)),

@@ -21,8 +21,7 @@ nodes-requires c κs = search needs
 loop-holds : tie.Need-loop-holds Inv-loop μ-loop
 loop-holds c =
     let s = c .before .before .before in
-    let a = s .args in
-    (
+    let a = s .args in (
       omega (arith, c .nodes .ensures, c .before .driven .ensures, s .pre .evaluable .ready .limits .wired .driven-there),
       omega (arith, c .nodes .ensures),
       rw (c .nodes .ensures) (pass-none (a .image .now) (a .board .now) (a .lines .now) (a .stored .now) (a .volts .now) (a .s .now) (s .pre)),
@@ -46,8 +45,7 @@ loop-again : tie.Need-loop-again Inv-loop μ-loop
 loop-again c =
     let s = c .before .before .before .before .before .before .before .before .before in
     let a = s .args in
-    let l = c .before .before .before .before .before .loop in
-    (
+    let l = c .before .before .before .before .before .loop in (
       omega arith,
       omega arith,
       pass-back (a .image .now) (a .board .now) (a .lines .now) (a .stored .now) (a .volts .now) (a .s .now) (l .s) (l .went) (l .wait) (l .i) (l .inv .2) (omega (arith, c .before .before .before .before .before .before .before .driven .ensures)) (l .inv .1) (c .before .before .visit-at .last .1 .1 .1 .1 .1 .0) (rw (c .enum-told .given .1) at (c .before .before .visit-at .ensures)),
@@ -66,8 +64,7 @@ loop-again-2 : tie.Need-loop-again-2 Inv-loop μ-loop
 loop-again-2 c =
     let s = c .before .before .before .before .before .before .before .before .before in
     let a = s .args in
-    let l = c .before .before .before .before .before .loop in
-    (
+    let l = c .before .before .before .before .before .loop in (
       omega arith,
       omega arith,
       pass-waits (a .image .now) (a .board .now) (a .lines .now) (a .stored .now) (a .volts .now) (a .s .now) (l .s) (l .went) (l .wait) (l .i) (l .inv .2) (omega (arith, c .before .before .before .before .before .before .before .driven .ensures)) (l .inv .1) (c .before .before .visit-at .last .1 .1 .1 .1 .1 .0) (rw (c .enum-told2 .given .1) at (c .before .before .visit-at .ensures)),
@@ -86,8 +83,7 @@ loop-again-3 : tie.Need-loop-again-3 Inv-loop μ-loop
 loop-again-3 c =
     let s = c .before .before .before .before .before .before .before .before .before in
     let a = s .args in
-    let l = c .before .before .before .before .before .loop in
-    (
+    let l = c .before .before .before .before .before .loop in (
       omega arith,
       omega arith,
       pass-goes (a .image .now) (a .board .now) (a .lines .now) (a .stored .now) (a .volts .now) (a .s .now) (l .s) (l .went) (l .wait) (l .i) (l .inv .2) (omega (arith, c .before .before .before .before .before .before .before .driven .ensures)) (l .inv .1) (c .before .before .visit-at .last .1 .1 .1 .1 .1 .0) (rw (c .enum-told3 .given .1) at (c .before .before .visit-at .ensures)),

@@ -49,8 +49,7 @@ higher c = rw (c .enum-told2 .given .1) at (c .before .before .rise .ensures)
 leaps-up-requires : tie.Need-leaps-up-requires Inv-loop μ-loop
 leaps-up-requires c κs =
     let a = c .before .before .before .before .before .before .before .before .before .before .args in
-    let l = c .before .before .before .before .before .before .loop in
-    (
+    let l = c .before .before .before .before .before .before .loop in (
       searching-up (a .image .now) (a .board .now) (a .stored .now) (a .lines .now) (a .steep .now) (l .volts) (c .before .before .before .before .rise .last .1 .1 .1 .1 .1 .0) (l .inv .0) (higher (c .before .before) .up),
       rw (l .inv .2) (l .inv .0 .evaluable .ranged),
     )
@@ -68,8 +67,7 @@ loop-again : tie.Need-loop-again Inv-loop μ-loop
 loop-again c =
     let a = c .before .before .before .before .before .before .before .before .before .before .before .before .before .args in
     let l = c .before .before .before .before .before .before .before .before .before .loop in
-    let r = risen-up (a .image .now) (a .board .now) (a .stored .now) (l .volts) (c .before .before .before .before .before .before .before .rise .last .1 .1 .1 .1 .1 .0) (c .before .before .leaps-up .last .1 .1 .1 .1 .1 .1 .0) (higher (c .before .before .before .before .before)) (c .before .before .leaps-up .ensures) in
-    (
+    let r = risen-up (a .image .now) (a .board .now) (a .stored .now) (l .volts) (c .before .before .before .before .before .before .before .rise .last .1 .1 .1 .1 .1 .0) (c .before .before .leaps-up .last .1 .1 .1 .1 .1 .1 .0) (higher (c .before .before .before .before .before)) (c .before .before .leaps-up .ensures) in (
       searching-up (a .image .now) (a .board .now) (a .stored .now) (a .lines .now) (a .steep .now) (l .volts) (c .before .before .leaps-up .last .1 .1 .1 .1 .1 .1 .0) (l .inv .0) (r .up),
       up-more (a .image .now) (a .board .now) (a .stored .now) (a .volts .now) (l .volts) (c .before .before .leaps-up .last .1 .1 .1 .1 .1 .1 .0) (l .inv .1) (r .up),
       c .copied2 .ensures .0,

@@ -45,8 +45,8 @@ returns : tie.Need-returns Inv-loop μ-loop
 returns c =
     let l = c .before .before .before .before .before .before .before .before .before .loop in
     λ d legal low.
-        let h = l .inv .1 .low d legal low in
-        (rw (c .before .before .before .before .before .before .before .copied .ensures .0) at (rw (c .enum-told .given .1) at (c .before .before .certify .ensures))) d (h .0) (h .1)
+    let h = l .inv .1 .low d legal low in
+    (rw (c .before .before .before .before .before .before .before .copied .ensures .0) at (rw (c .enum-told .given .1) at (c .before .before .certify .ensures))) d (h .0) (h .1)
 
 enum-told-2 : tie.Need-enum-told-2 Inv-loop μ-loop
 enum-told-2 c = search needs
@@ -77,8 +77,7 @@ loop-again : tie.Need-loop-again Inv-loop μ-loop
 loop-again c =
     let a = c .before .before .before .before .before .before .before .before .before .before .before .before .before .before .before .before .args in
     let l = c .before .before .before .before .before .before .before .before .before .before .before .before .before .before .loop in
-    let r = risen-up (a .image .now) (a .board .now) (a .stored .now) (l .volts) (c .before .before .leaps-up .last .1 .1 .1 .1 .1 .1 .0) (c .ascend .last .1 .1 .1 .1 .1 .0) (risen-up (a .image .now) (a .board .now) (a .stored .now) (l .volts) (c .before .before .before .before .before .before .before .certify .last .1 .1 .1 .1 .1 .0) (c .before .before .leaps-up .last .1 .1 .1 .1 .1 .1 .0) (higher (c .before .before .before .before .before)) (c .before .before .leaps-up .ensures)) (c .ascend .ensures) in
-    (
+    let r = risen-up (a .image .now) (a .board .now) (a .stored .now) (l .volts) (c .before .before .leaps-up .last .1 .1 .1 .1 .1 .1 .0) (c .ascend .last .1 .1 .1 .1 .1 .0) (risen-up (a .image .now) (a .board .now) (a .stored .now) (l .volts) (c .before .before .before .before .before .before .before .certify .last .1 .1 .1 .1 .1 .0) (c .before .before .leaps-up .last .1 .1 .1 .1 .1 .1 .0) (higher (c .before .before .before .before .before)) (c .before .before .leaps-up .ensures)) (c .ascend .ensures) in (
       searching-up (a .image .now) (a .board .now) (a .stored .now) (a .lines .now) (a .steep .now) (l .volts) (c .ascend .last .1 .1 .1 .1 .1 .0) (l .inv .0) (r .up),
       up-more (a .image .now) (a .board .now) (a .stored .now) (a .volts .now) (l .volts) (c .ascend .last .1 .1 .1 .1 .1 .0) (l .inv .1) (r .up),
     )

@@ -26,8 +26,7 @@ add-i c = let s = c .before .before .before in record { fits = omega (arith, c .
 loop-holds : tie.Need-loop-holds Inv-loop μ-loop
 loop-holds c =
     let s = c .before .before .before in
-    let a = s .args in
-    (
+    let a = s .args in (
       omega (arith, c .driven .ensures),
       omega (arith, c .driven .ensures, c .before .nodes .ensures, s .pre .ready .limits .wired .driven-there),
       rw (c .driven .ensures) (fits-none (a .image .now) (a .board .now) (a .stored .now) (a .volts .now) (a .far .now)),

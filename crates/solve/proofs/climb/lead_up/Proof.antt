@@ -28,8 +28,7 @@ add-i c = let s = c .before .before in record { fits = omega (arith, c .driven .
 loop-holds : tie.Need-loop-holds Inv-loop μ-loop
 loop-holds c =
     let s = c .before .before in
-    let a = s .args in
-    (
+    let a = s .args in (
       omega (arith, c .driven .ensures),
       omega (arith, c .driven .ensures, c .before .nodes .ensures, s .pre .0 .places .driven-there),
       rw (c .driven .ensures) (led-up-none (a .board .now) (a .volts .now) (a .far .now) (s .pre .0 .places .long) (s .pre .1)),

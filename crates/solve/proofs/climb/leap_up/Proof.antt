@@ -11,8 +11,7 @@ copied-requires c κs = search needs
 lead-up-requires : tie.Need-lead-up-requires
 lead-up-requires c κs =
     let s = c .before .before .before .before .before in
-    let a = s .args in
-    (
+    let a = s .args in (
       record { places = places-of (a .image .now) (a .board .now) (a .stored .now) (a .lines .now) (a .steep .now) (a .volts .now) (s .pre .0); from = s .pre .1; times = s .pre .2 },
       c .before .before .copied .ensures .0,
     )

@@ -25,8 +25,7 @@ add-i c = let s = c .before .before .before in record { fits = omega (arith, c .
 loop-holds : tie.Need-loop-holds Inv-loop μ-loop
 loop-holds c =
     let s = c .before .before .before in
-    let a = s .args in
-    (
+    let a = s .args in (
       omega (arith, c .driven .ensures),
       omega (arith, c .driven .ensures, c .before .nodes .ensures, s .pre .evaluable .ready .limits .wired .driven-there),
       rose-none (a .image .now) (a .board .now) (a .stored .now) (a .volts .now) (a .lines .now) (a .steep .now) (s .pre),
@@ -36,8 +35,7 @@ rise-at-requires : tie.Need-rise-at-requires Inv-loop μ-loop
 rise-at-requires c κs =
     let s = c .before .before .before .before .before .before in
     let a = s .args in
-    let l = c .before .before .loop in
-    (
+    let l = c .before .before .loop in (
       searching-up (a .image .now) (a .board .now) (a .stored .now) (a .lines .now) (a .steep .now) (a .volts .now) (l .volts) (s .pre) (l .inv .2 .up),
       (l .inv .0, omega (arith, c .before .before .before .before .nodes .ensures)),
     )

@@ -58,10 +58,13 @@ loop-again c =
     let s = c .before .before .before .before .before .before .before in
     let l = c .before .before .before .before .loop in
     let e : toZ w64 (ofZ w64 (reading (s .args .volts .now) (l .i))) ≡ reading (s .args .volts .now) (l .i) = search needs in
-    let h : reading (s .args .volts .now) (l .i) <ℤ pos voltageLimit = ltZ-true _ _ (sym (rw e at (c .before .less .ensures)) ∙ c .if1 .taken) in
-    (omega arith, omega arith, λ k a b. ⊎-elim
-        (λ (m : suc k ≤ l .i). l .inv .2 k a m)
-        (λ (m : l .i < suc k). let q : k ≡ l .i = omega arith in subst (λ (n : ℕ). reading (s .args .volts .now) n <ℤ pos voltageLimit) (sym q) h) (decideN (suc k) (l .i)))
+    let h : reading (s .args .volts .now) (l .i) <ℤ pos voltageLimit = ltZ-true _ _ (sym (rw e at (c .before .less .ensures)) ∙ c .if1 .taken) in (
+      omega arith,
+      omega arith,
+      λ k a b. ⊎-elim
+          (λ (m : suc k ≤ l .i). l .inv .2 k a m)
+          (λ (m : l .i < suc k). let q : k ≡ l .i = omega arith in subst (λ (n : ℕ). reading (s .args .volts .now) n <ℤ pos voltageLimit) (sym q) h) (decideN (suc k) (l .i)),
+    )
 
 returns : tie.Need-returns Inv-loop μ-loop
 returns c =

@@ -11,8 +11,7 @@ copied-requires c κs = search needs
 
 lead-requires : tie.Need-lead-requires
 lead-requires c κs =
-    let s = c .before .before .before .before .before in
-    (
+    let s = c .before .before .before .before .before in (
       record { places = places-of (s .args .image .now) (s .args .board .now) (s .args .stored .now) (s .args .lines .now) (s .args .steep .now) (s .args .volts .now) (s .pre .0); from = s .pre .1; times = s .pre .2 },
       c .before .before .copied .ensures .0,
     )

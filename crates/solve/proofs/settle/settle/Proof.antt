@@ -63,8 +63,7 @@ leaps-requires : tie.Need-leaps-requires Inv-loop μ-loop
 leaps-requires c κs =
     let s = c .before .before .before .before .before .before .before .before .before .before in
     let a = s .args in
-    let l = c .before .before .before .before .before .before .loop in
-    (
+    let l = c .before .before .before .before .before .before .loop in (
       searching-down (a .image .now) (a .board .now) (a .stored .now) (a .lines .now) (a .steep .now) (l .volts) (c .before .before .before .before .sweep .last .1 .1 .1 .1 .1 .0) (l .inv .0) (lower (c .before .before) .down),
       rw (l .inv .2) (l .inv .0 .evaluable .ranged),
     )
@@ -84,8 +83,7 @@ loop-again c =
     let s = c .before .before .before .before .before .before .before .before .before .before .before .before .before in
     let a = s .args in
     let l = c .before .before .before .before .before .before .before .before .before .loop in
-    let d = lowered-down (a .image .now) (a .board .now) (a .stored .now) (l .volts) (c .before .before .before .before .before .before .before .sweep .last .1 .1 .1 .1 .1 .0) (c .before .before .leaps .last .1 .1 .1 .1 .1 .1 .0) (lower (c .before .before .before .before .before)) (c .before .before .leaps .ensures) .down in
-    (
+    let d = lowered-down (a .image .now) (a .board .now) (a .stored .now) (l .volts) (c .before .before .before .before .before .before .before .sweep .last .1 .1 .1 .1 .1 .0) (c .before .before .leaps .last .1 .1 .1 .1 .1 .1 .0) (lower (c .before .before .before .before .before)) (c .before .before .leaps .ensures) .down in (
       searching-down (a .image .now) (a .board .now) (a .stored .now) (a .lines .now) (a .steep .now) (l .volts) (c .before .before .leaps .last .1 .1 .1 .1 .1 .1 .0) (l .inv .0) d,
       down-more (a .image .now) (a .board .now) (a .stored .now) (a .volts .now) (l .volts) (c .before .before .leaps .last .1 .1 .1 .1 .1 .1 .0) (l .inv .1) d,
       c .copied2 .ensures .0,

@@ -26,8 +26,7 @@ add-i c = let s = c .before .before .before in record { fits = omega (arith, c .
 loop-holds : tie.Need-loop-holds Inv-loop μ-loop
 loop-holds c =
     let s = c .before .before .before in
-    let a = s .args in
-    (
+    let a = s .args in (
       omega (arith, c .driven .ensures),
       omega (arith, c .driven .ensures, c .before .nodes .ensures, s .pre .0 .ready .limits .wired .driven-there),
       rw (c .driven .ensures) (sinks-none (a .image .now) (a .board .now) (a .lines .now) (a .stored .now) (a .volts .now) (a .far .now) (s .pre .1) (s .pre .0)),
@@ -49,8 +48,7 @@ loop-again : tie.Need-loop-again Inv-loop μ-loop
 loop-again c =
     let s = c .before .before .before .before .before .before .before .before in
     let a = s .args in
-    let l = c .before .before .before .before .loop in
-    (
+    let l = c .before .before .before .before .loop in (
       omega arith,
       omega arith,
       sinks-next (a .image .now) (a .board .now) (a .lines .now) (a .stored .now) (a .volts .now) (a .far .now) (s .pre .1) (l .far) (l .i) (l .inv .2) (c .before .sink-at .last .1 .1 .1 .1 .1 .0) (s .pre .0 .ready) (l .inv .0, omega (arith, c .before .before .before .before .before .before .nodes .ensures)) (c .before .sink-at .ensures (c .if1 .taken)),

@@ -28,8 +28,7 @@ loop-holds : tie.Need-loop-holds Inv-loop μ-loop
 loop-holds c =
     let s = c .before .before .before in
     let a = s .args in
-    let w = s .pre .evaluable .ready .limits .wired in
-    (
+    let w = s .pre .evaluable .ready .limits .wired in (
       omega (arith, c .driven .ensures),
       omega (arith, c .driven .ensures, c .before .nodes .ensures, w .driven-there),
       rw (c .driven .ensures) (swept-none (a .image .now) (a .board .now) (a .stored .now) (a .volts .now) (a .lines .now) (a .steep .now) (s .pre)),
@@ -39,8 +38,7 @@ step-requires : tie.Need-step-requires Inv-loop μ-loop
 step-requires c κs =
     let s = c .before .before .before .before .before .before in
     let a = s .args in
-    let l = c .before .before .loop in
-    (
+    let l = c .before .before .loop in (
       searching-down (a .image .now) (a .board .now) (a .stored .now) (a .lines .now) (a .steep .now) (a .volts .now) (l .volts) (s .pre) (l .inv .2 .down),
       (l .inv .0, omega (arith, c .before .before .before .before .nodes .ensures)),
     )
@@ -58,8 +56,7 @@ loop-again : tie.Need-loop-again Inv-loop μ-loop
 loop-again c =
     let s = c .before .before .before .before .before .before .before .before .before in
     let a = s .args in
-    let l = c .before .before .before .before .before .loop in
-    (
+    let l = c .before .before .before .before .before .loop in (
       omega arith,
       omega arith,
       swept-still (a .image .now) (a .board .now) (a .stored .now) (a .volts .now) (l .volts) (c .before .before .step .last .1 .1 .1 .1 .1 .0) (l .moved) (l .i) (l .inv .2) (rw (c .enum-told .given .1) at (c .before .before .step .ensures)),
@@ -78,8 +75,7 @@ loop-again-2 : tie.Need-loop-again-2 Inv-loop μ-loop
 loop-again-2 c =
     let s = c .before .before .before .before .before .before .before .before .before in
     let a = s .args in
-    let l = c .before .before .before .before .before .loop in
-    (
+    let l = c .before .before .before .before .before .loop in (
       omega arith,
       omega arith,
       swept-lower (a .image .now) (a .board .now) (a .stored .now) (a .volts .now) (l .volts) (c .before .before .step .last .1 .1 .1 .1 .1 .0) (l .moved) (l .i) (l .inv .2) (rw (c .enum-told2 .given .1) at (c .before .before .step .ensures)),
