@@ -92,14 +92,14 @@ module _ (N : Network) (x z : ℕ → ℤ) where
   visit-more-list l i short v free waits high = subst (λ (s : ℕ → ℤ). Visit N x z s) (sym (store-lowers l i 1 short)) (visit-more (reading l) i v free waits high)
 
   -- where the visit has come to: at z, or one above it at a free node below the top
-  visit-law : (s : ℕ → ℤ) → Visit N x z s → (j : ℕ) → j ≤ N .nodes → (s j ≡ z j) ⊎ ((s j ≡ z j +ℤ pos 1) × Free N j × (z j <ℤ pos voltageLimit))
+  pub visit-law : (s : ℕ → ℤ) → Visit N x z s → (j : ℕ) → j ≤ N .nodes → (s j ≡ z j) ⊎ ((s j ≡ z j +ℤ pos 1) × Free N j × (z j <ℤ pos voltageLimit))
   unfolding Lifted Kept
   visit-law s v j l = ⊎-elim
       (λ (h : s j ≡ z j). inl h)
       (λ (h : s j ≡ raised N z j). ⊎-elim (λ (r : Lifted N z j). inr (h ∙ r .0, r .1, r .2)) (λ (r : Kept N z j). inl (h ∙ r .0)) (raised-law N z j))
       (v .each j l)
 
-  visit-over : (s : ℕ → ℤ) → Visit N x z s → Under N z s
+  pub visit-over : (s : ℕ → ℤ) → Visit N x z s → Under N z s
   visit-over s v j l = ⊎-elim
       (λ (h : s j ≡ z j). omega signs)
       (λ (h : (s j ≡ z j +ℤ pos 1) × Free N j × (z j <ℤ pos voltageLimit)). omega (signs, h .0, add-law (z j) (pos 1), pos-law 1)) (visit-law s v j l)

@@ -48,6 +48,14 @@ height-falls N u v i there below less over =
     (up-less (u i +ℤ L) (v i +ℤ L) (omega (signs, add-law (u i) L, add-law (v i) L)) (omega (signs, add-law (v i) L, neg-law L, pos-law voltageLimit)))
     (λ j l. parts (u j +ℤ L) (v j +ℤ L) (omega (signs, below j (omega arith), add-law (u j) L, add-law (v j) L)) .0)
 
+-- u is nowhere higher than v
+pub height-under : (N : Network) (u v : ℕ → ℤ) → Under N u v → height N u ≤ height N v
+unfolding height
+height-under N u v below =
+    let L = pos voltageLimit in
+    total-le (λ (j : ℕ). up (v j +ℤ L)) (λ (j : ℕ). up (u j +ℤ L)) (suc (N .nodes))
+    (λ j l. parts (u j +ℤ L) (v j +ℤ L) (omega (signs, below j (omega arith), add-law (u j) L, add-law (v j) L)) .0)
+
 pub height-falls-list : (N : Network) (l : List ℤ) (i t : ℕ) → i < length l → i ≤ N .nodes → 0 < t → bottom <ℤ reading l i → height N (reading (set l i (reading l i -ℤ pos t))) < height N (reading l)
 height-falls-list N l i t short there some over =
     let u = lowered (reading l) i t in
@@ -66,4 +74,12 @@ depth-falls N u v i there over more inside =
     let L = pos voltageLimit in
     total-less (λ (j : ℕ). up (L -ℤ v j)) (λ (j : ℕ). up (L -ℤ u j)) (suc (N .nodes)) i (omega arith)
     (up-less (L -ℤ u i) (L -ℤ v i) (omega (signs, sub-law L (u i), sub-law L (v i))) (omega (signs, sub-law L (v i))))
+    (λ j l. parts (L -ℤ u j) (L -ℤ v j) (omega (signs, over j (omega arith), sub-law L (u j), sub-law L (v j))) .0)
+
+-- u is nowhere lower than v
+pub depth-over : (N : Network) (u v : ℕ → ℤ) → Under N v u → depth N u ≤ depth N v
+unfolding depth
+depth-over N u v over =
+    let L = pos voltageLimit in
+    total-le (λ (j : ℕ). up (L -ℤ v j)) (λ (j : ℕ). up (L -ℤ u j)) (suc (N .nodes))
     (λ j l. parts (L -ℤ u j) (L -ℤ v j) (omega (signs, over j (omega arith), sub-law L (u j), sub-law L (v j))) .0)

@@ -1,0 +1,74 @@
+use mathlib.Core.Path.{_≡_, sym, _∙_}
+use mathlib.Core.Bool.{true, false, false≢true}
+use Prim.Native.Nat.{ℕ, _+_, _-_, _≤_, _<_}
+use native.Mathlib.Omega.{arith}
+use Rattle.circuit.specs.Board.{drivenOn}
+use Rattle.solve.proofs.ClimbLaws.{FitsTo, fits-none, fits-more, fits-all}
+use borrow.Author.Needs.{needs}
+use Rattle.solve.proofs.climb.fits.Statement.{statement}
+use Rattle.solve.proofs.climb.fits.Tie as tie
+
+abbrev Inv-loop : tie.InvT-loop
+Inv-loop image board lines stored volts far nodes i₀ i = (drivenOn board < i) × (i ≤ nodes + 1) × FitsTo image board stored volts far i
+
+abbrev μ-loop : tie.MeasureT-loop
+μ-loop image board lines stored volts far nodes i₀ i = nodes + 1 - i
+
+nodes-requires : tie.Need-nodes-requires Inv-loop μ-loop
+nodes-requires c κs = search needs
+
+driven-requires : tie.Need-driven-requires Inv-loop μ-loop
+driven-requires c κs = search needs
+
+add-i : tie.Need-add-i Inv-loop μ-loop
+add-i c = let s = c .before .before .before in record { fits = omega (arith, c .driven .ensures, s .pre .ready .limits .few-nodes, s .pre .ready .limits .wired .driven-there) }
+
+loop-holds : tie.Need-loop-holds Inv-loop μ-loop
+loop-holds c =
+    let s = c .before .before .before in
+    let a = s .args in (
+      omega (arith, c .driven .ensures),
+      omega (arith, c .driven .ensures, c .before .nodes .ensures, s .pre .ready .limits .wired .driven-there),
+      rw (c .driven .ensures) (fits-none (a .image .now) (a .board .now) (a .stored .now) (a .volts .now) (a .far .now)),
+    )
+
+fits-at-requires : tie.Need-fits-at-requires Inv-loop μ-loop
+fits-at-requires c κs = (c .before .before .before .before .before .pre, (c .before .loop .inv .0, omega (arith, c .before .before .before .nodes .ensures)))
+
+add-i-2 : tie.Need-add-i-2 Inv-loop μ-loop
+add-i-2 c = let s = c .before .before .before .before .before .before .before in record { fits = omega (arith, c .before .before .before .before .before .nodes .ensures, s .pre .ready .limits .few-nodes) }
+
+loop-less : tie.Need-loop-less Inv-loop μ-loop
+loop-less c = omega arith
+
+loop-again : tie.Need-loop-again Inv-loop μ-loop
+loop-again c =
+    let a = c .before .before .before .before .before .before .before .args in
+    let l = c .before .before .before .loop in
+    (omega arith, omega arith, fits-more (a .image .now) (a .board .now) (a .stored .now) (a .volts .now) (a .far .now) (l .i) (l .inv .2) (c .before .fits-at .ensures (c .if1 .taken)))
+
+returns : tie.Need-returns Inv-loop μ-loop
+returns c = λ e. absurd (false≢true e)
+
+returns-2 : tie.Need-returns-2 Inv-loop μ-loop
+returns-2 c =
+    let a = c .before .before .before .before .before .args in
+    let l = c .before .loop in
+    λ e. fits-all (a .image .now) (a .board .now) (a .stored .now) (a .volts .now) (a .far .now) (l .i) (l .inv .2) (omega (arith, c .before .before .before .nodes .ensures))
+
+pub fits-spec : {M : Type 1} → statement M
+fits-spec =
+    tie.close
+    (tie.spec
+    Inv-loop
+    μ-loop
+    nodes-requires
+    driven-requires
+    add-i
+    loop-holds
+    fits-at-requires
+    add-i-2
+    loop-less
+    loop-again
+    returns
+    returns-2)

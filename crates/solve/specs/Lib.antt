@@ -1,0 +1,5 @@
+pub mod Answer
+pub mod Climb
+pub mod Sample
+pub mod Search
+pub mod Visit
