@@ -7,16 +7,23 @@ use native.Mathlib.Omega.{arith}
 use native.Mathlib.Nat.{mul-le-mul-right}
 use native.Mathlib.Numerals.{add-one}
 use lib.IntN.{ℤ, pos, natAbs, _*ℤ_}
-use lib.ListN.{length}
+use lib.ListN.{length, getD}
 use mir.Syntax.{w64}
 use mir.Val.{ofZ}
 use Rattle.units.specs.Bytes.{stored}
 use Rattle.units.specs.Voltage.{driveLimit, InDrive}
 use Rattle.units.proofs.LittleEndian.{stored-length}
-use Rattle.network.specs.Network.{Network, reading}
+use Rattle.network.specs.Network.{Network, Free, steepest, reading}
 use Rattle.network.specs.Sample.{Drives, Legal, Low, Answer, Rail, Outcome, numberOf, accepted, driveRefused, railRefused, storedRefused, Accepted, Gives, DrivesLegal}
 use Rattle.circuit.specs.Board.{drivenOn, networkOn}
-use Rattle.block.specs.Block.{Run, start, sample}
+use Rattle.image.proofs.Tables.{padded-at}
+use Rattle.solve.specs.Answer.{drivesAt}
+use Rattle.solve.specs.Sample.{Given}
+use Rattle.solve.specs.Sample as solve
+use Rattle.solve.specs.declared.sample.Outcome as solution
+use Rattle.solve.specs.declared.sample.Outcome.the-variants as outcome
+use Rattle.block.specs.Block.{driveAt, Run, start, sample}
+use Rattle.block.specs.Drives.{Placed}
 use Rattle.block.specs.Playing.{Playing, Driven, Room, Sampled, passed, refused, Ran, short}
 
 module _ (N : Network) (x d e : ℕ → ℤ) (same : (j : ℕ) → j < N .driven → d j ≡ e j) where
@@ -42,6 +49,35 @@ module _ (N : Network) (x d e : ℕ → ℤ) (same : (j : ℕ) → j < N .driven
   gives-moved driveRefused g = record { drive = g .drive; there = g .there; beyond = subst (λ (z : ℤ). driveLimit < natAbs z) (same (g .drive) (g .there)) (g .beyond) }
   gives-moved railRefused g = record { drives = drives-moved (g .drives); rail = rail-moved (g .rail) }
   gives-moved storedRefused g = record { drives = drives-moved (g .drives); voltages = g .voltages; answer = answer-moved (g .voltages) (g .answer); below = g .below; branch = g .branch; there = g .there; beyond = g .beyond }
+
+-- ---- a sample of the code
+
+-- what it is given
+pub given : (image board : List ℕ) (lines x : List ℤ) (steep : List ℕ) → Playing image board lines x steep → Given image board lines steep x
+given image board lines x steep p = record { ready = p .ready; steepest-sums = sums; kept = p .kept; long = p .long }
+  where
+    sums : (i : ℕ) → Free (networkOn image board) i → getD steep i 0 ≡ steepest (networkOn image board) i
+    sums i f =
+        let h : i < 16 = omega (arith, f .1, p .ready .limits .few-nodes) in
+        rw (p .steepest-sums) (padded-at 16 (steepest (networkOn image board)) 16 i (omega arith) h)
+
+-- document 01's number of what comes of it
+abbrev pub numberFor : solution.Outcome → ℕ
+numberFor outcome.Accepted = 0
+numberFor outcome.DriveRefused = 9
+numberFor outcome.RailRefused = 10
+numberFor outcome.StoredRefused = 11
+
+-- and what comes of it, with the drives that were placed
+module _ (image board drives : List ℕ) (j : ℕ) (before volts x v y : List ℤ) (p : Placed drives (drivenOn board) j (drivenOn board) before volts) where
+  moved : (r : Outcome) → Gives (networkOn image board) (reading x) (drivesAt volts) r → Gives (networkOn image board) (reading x) (driveAt drives (drivenOn board) j) r
+  moved r g = gives-moved (networkOn image board) (reading x) (drivesAt volts) (driveAt drives (drivenOn board) j) (p .at) r g
+
+  pub sampled-is : (r : solution.Outcome) → solve.Sampled image board volts x v y r → Sampled (networkOn image board) (driveAt drives (drivenOn board) j) x y v (numberFor r)
+  sampled-is outcome.Accepted s = passed (moved (accepted (reading v) (reading y)) (s .gives)) (s .carried .0) (s .carried .1)
+  sampled-is outcome.DriveRefused s = refused driveRefused (moved driveRefused (s .gives)) (omega arith) (s .carried)
+  sampled-is outcome.RailRefused s = refused railRefused (moved railRefused (s .gives)) (omega arith) (s .carried)
+  sampled-is outcome.StoredRefused s = refused storedRefused (moved storedRefused (s .gives)) (omega arith) (s .carried)
 
 -- ---- from one sample to the next
 

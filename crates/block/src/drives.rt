@@ -1,11 +1,9 @@
-// The drives of a sample: from their bytes to the driven nodes, and whether they are legal.
+// The drives of a sample: from their bytes to the driven nodes.
 use units::bytes;
-use units::voltage::Voltage;
 ghost use mathlib.Core.Path.{_≡_};
 ghost use Prim.Native.Nat.{ℕ, _+_, _*_, _≤_, _<_};
 ghost use lib.ListN.{length};
-ghost use Rattle.block.specs.Block.{Decides};
-ghost use Rattle.block.specs.Drives.{Placed, AllLegal};
+ghost use Rattle.block.specs.Drives.{Placed};
 
 // Puts the drives of sample j at the driven nodes.
 pub fn place(drives: &[u8], driven: usize, j: usize, volts: &mut [i64; 16])
@@ -18,22 +16,4 @@ pub fn place(drives: &[u8], driven: usize, j: usize, volts: &mut [i64; 16])
         volts[1 + i] = bytes::i32_at(drives, 4 * (first + i));
         i += 1;
     }
-}
-
-// Whether every driven node stands at a legal drive.
-pub fn legal(driven: usize, volts: &[i64; 16]) -> bool
-    requires { ⌜ driven ≤ 15 ⌝ }
-    ensures { λ r. ⌜ AllLegal driven (now (volts .entry)) r ⌝ }
-{
-    let mut i: usize = 0;
-    while i < driven {
-        i += 1;
-        let v = Voltage {
-            microvolts: volts[i],
-        };
-        if !v.in_drive() {
-            return false;
-        }
-    }
-    true
 }

@@ -1,14 +1,16 @@
 // The samples of a block, one after the other, up to the first that is refused.
 use circuit::board;
-use units::bytes;
 use crate::drives;
+use solve::sample;
+use solve::settle;
+use units::bytes;
 ghost use Rattle.circuit.specs.Board.{drivenOn, networkOn};
 ghost use Rattle.block.specs.Block.{driveAt};
 ghost use Rattle.block.specs.Playing.{Playing, Driven, Room, Sampled, Ran};
 
 // Sample j: its drives at the driven nodes, then its voltages and the stored currents after it.
 // Document 01's number.
-fn sample(
+fn next(
     image: &[u8],
     board: &[u64; 164],
     lines: &[i64; 136],
@@ -21,8 +23,15 @@ fn sample(
     requires { ⌜ Playing (now image) (now board) (now lines) (now x) (now steep) × Driven (now board) (now drives) j ⌝ }
     ensures { λ r. ⌜ Sampled (networkOn (now (image .entry)) (now (board .entry))) (driveAt (now (drives .entry)) (drivenOn (now (board .entry))) j) (now (x .entry)) (now (x .exit)) (now (volts .exit)) r ⌝ }
 {
-    drives::place(drives, board::driven(board), j, volts);
-    0
+    let mut placed = settle::copied(volts);
+    drives::place(drives, board::driven(board), j, &mut placed);
+    *volts = placed;
+    match sample::sample(image, board, lines, steep, volts, x) {
+        sample::Outcome::Accepted => 0,
+        sample::Outcome::DriveRefused => 9,
+        sample::Outcome::RailRefused => 10,
+        sample::Outcome::StoredRefused => 11,
+    }
 }
 
 // All samples, each from the voltages of the one before it. What comes back is the number times
@@ -44,7 +53,7 @@ pub fn run(
 {
     let mut j: usize = 0;
     while j < n {
-        let number = sample(image, board, lines, steep, drives, j, x, volts);
+        let number = next(image, board, lines, steep, drives, j, x, volts);
         if number != 0 {
             return number * 65536 + (j as u64);
         }

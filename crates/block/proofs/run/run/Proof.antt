@@ -23,8 +23,8 @@ loop-holds c =
     let s = c .before .before .before in
     (omega arith, start, s .pre .0)
 
-sample-requires : tie.Need-sample-requires Inv-loop μ-loop
-sample-requires c κs =
+next-requires : tie.Need-next-requires Inv-loop μ-loop
+next-requires c κs =
     let l = c .before .before .before .loop in
     let s = c .before .before .before .before .before .before .before in
     let a = s .args in
@@ -32,12 +32,12 @@ sample-requires c κs =
 
 mul-result : tie.Need-mul-result Inv-loop μ-loop
 mul-result c =
-    let q = refused-is (c .before .sample .ensures) (c .if1 .taken) in
+    let q = refused-is (c .before .next .ensures) (c .if1 .taken) in
     omega (arith, q .is, number-small (q .outcome))
 
 add-result : tie.Need-add-result Inv-loop μ-loop
 add-result c =
-    let q = refused-is (c .before .sample .ensures) (c .if1 .taken) in
+    let q = refused-is (c .before .next .ensures) (c .if1 .taken) in
     omega (arith, q .is, number-small (q .outcome), c .before .before .before .before .before .before .before .before .before .pre .1 .few, c .before .before .before .before .loop-test .taken)
 
 same-length : tie.Need-same-length Inv-loop μ-loop
@@ -45,7 +45,7 @@ same-length c = run-length (c .before .before .before .before .before .loop .inv
 
 returns : tie.Need-returns Inv-loop μ-loop
 returns c =
-    let q = refused-is (c .before .sample .ensures) (c .if1 .taken) in
+    let q = refused-is (c .before .next .ensures) (c .if1 .taken) in
     run-short (c .before .before .before .before .before .loop .inv .1) (c .before .before .before .before .loop-test .taken) q
 
 mul-put-i32 : tie.Need-mul-put-i32 Inv-loop μ-loop
@@ -71,10 +71,10 @@ loop-less c = search needs
 loop-again : tie.Need-loop-again Inv-loop μ-loop
 loop-again c =
     let l = c .before .before .before .before .before .before .before .before .before .before .loop in
-    let v = c .before .before .before .before .before .before .sample .last .1 .1 .1 .1 .1 .1 .1 .0 in
+    let v = c .before .before .before .before .before .before .next .last .1 .1 .1 .1 .1 .1 .1 .0 in
     let z = reading v (c .before .before .before .before .before .before .before .before .before .before .before .before .before .before .args .output) in
     let e : toZ w64 (ofZ w64 z) ≡ z = search needs in
-    let q = passed-is (c .before .before .before .before .before .before .sample .ensures) (c .before .before .before .before .before .if1 .left) in
+    let q = passed-is (c .before .before .before .before .before .before .next .ensures) (c .before .before .before .before .before .if1 .left) in
     (omega (arith, c .before .before .before .before .before .before .before .before .before .loop-test .taken), rw ((rw e at (c .before .before .put-i32 .ensures))) (run-more (l .inv .1) q), playing-on _ _ _ _ _ _ _ _ (l .inv .2) (q .gives) (q .long))
 
 same-length-2 : tie.Need-same-length-2 Inv-loop μ-loop
@@ -94,7 +94,7 @@ run-spec =
     Inv-loop
     μ-loop
     loop-holds
-    sample-requires
+    next-requires
     mul-result
     add-result
     same-length
