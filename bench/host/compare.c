@@ -1,0 +1,139 @@
+/* Holds the proved block against the second program's: random calls on the cases' images, whole and damaged, with states, lengths and
+ * drives of all kinds; the answer and every byte of state and outputs must agree. Each buffer is as long as it says and no longer, so
+ * that a sanitizer sees any access past it.
+ *
+ *     compare CALLS IMAGE .. */
+#include <stdio.h>
+#include <stdlib.h>
+#include <string.h>
+
+#include "krtovalin.h"
+#include "../second/second.h"
+
+static uint64_t seed = 88172645463325252u;
+
+static uint64_t draw(void)
+{
+    seed ^= seed << 13;
+    seed ^= seed >> 7;
+    seed ^= seed << 17;
+    return seed;
+}
+
+static uint64_t below(uint64_t n)
+{
+    return draw() % n;
+}
+
+struct bytes {
+    uint8_t *at;
+    size_t length;
+};
+
+static struct bytes make(size_t length)
+{
+    struct bytes b = {malloc(length ? length : 1), length};
+    if (!b.at)
+        exit(2);
+    return b;
+}
+
+static struct bytes copy(struct bytes from)
+{
+    struct bytes b = make(from.length);
+    memcpy(b.at, from.at, from.length);
+    return b;
+}
+
+static struct bytes load(const char *name)
+{
+    struct bytes b = make(1400);
+    FILE *file = fopen(name, "rb");
+    b.length = file ? fread(b.at, 1, b.length, file) : 0;
+    if (file)
+        fclose(file);
+    return b;
+}
+
+/* now and then bytes changed, or the end cut off */
+static struct bytes damaged(struct bytes from)
+{
+    struct bytes b = copy(from);
+    if (below(4) == 0)
+        for (uint64_t i = 0, n = 1 + below(3); i < n && b.length; i++)
+            b.at[below(b.length)] = (uint8_t)draw();
+    if (below(50) == 0 && b.length) {
+        b.length = below(b.length);
+        uint8_t *cut = malloc(b.length ? b.length : 1);
+        memcpy(cut, b.at, b.length);
+        free(b.at);
+        b.at = cut;
+    }
+    return b;
+}
+
+static void put(uint8_t *at, uint64_t v, int n)
+{
+    for (int i = 0; i < n; i++)
+        at[i] = (uint8_t)(v >> (8 * i));
+}
+
+/* mostly zero; else small numbers, the limit and numbers past it, or noise */
+static struct bytes some_state(void)
+{
+    static const int64_t marks[] = {1, -1, 144115188075855872, -144115188075855872, 144115188075855873, -144115188075855873, INT64_MIN};
+    struct bytes b = make(below(40) ? KRTOVALIN_STATE : below(520));
+    uint64_t kind = below(8);
+    memset(b.at, 0, b.length);
+    for (size_t j = 0; 8 * j + 8 <= b.length; j++)
+        if (kind == 6 && below(6) == 0)
+            put(b.at + 8 * j, (uint64_t)marks[below(7)], 8);
+        else if (kind == 7 && j < 4)
+            put(b.at + 8 * j, (draw() >> 40) - (1u << 23), 8);
+    return b;
+}
+
+static struct bytes some_drives(void)
+{
+    struct bytes b = make(below(140));
+    uint64_t kind = below(6);
+    for (size_t j = 0; 4 * j + 4 <= b.length; j++) {
+        int64_t v = (int64_t)below(4000001) - 2000000;
+        if (kind == 0)
+            v = (int64_t)below(33554433) - 16777216;
+        if (kind == 1 && below(12) == 0)
+            v = below(2) ? 16777217 : -16777217;
+        put(b.at + 4 * j, (uint64_t)v, 4);
+    }
+    return b;
+}
+
+int main(int argc, char **argv)
+{
+    unsigned long calls = argc > 2 ? strtoul(argv[1], NULL, 10) : 0;
+    int images = argc - 2;
+    unsigned long numbers[12] = {0};
+    for (unsigned long call = 0; call < calls; call++) {
+        struct bytes whole = load(argv[2 + below((uint64_t)images)]);
+        struct bytes image = damaged(whole), state = some_state(), drives = some_drives(), outputs = make(below(80));
+        uint64_t n = below(20) ? below(12) : draw() >> below(64);
+        for (size_t i = 0; i < outputs.length; i++)
+            outputs.at[i] = (uint8_t)draw();
+        struct bytes state2 = copy(state), outputs2 = copy(outputs);
+        uint64_t a = krtovalin_block(image.at, image.length, state.at, state.length, n, drives.at, drives.length, outputs.at, outputs.length);
+        uint64_t b = second_block(image.at, image.length, state2.at, state2.length, n, drives.at, drives.length, outputs2.at, outputs2.length);
+        if (a != b || memcmp(state.at, state2.at, state.length) || memcmp(outputs.at, outputs2.at, outputs.length)) {
+            printf("call %lu: %llu and %llu, state %s, outputs %s\n", call, (unsigned long long)a, (unsigned long long)b,
+                   memcmp(state.at, state2.at, state.length) ? "differs" : "same",
+                   memcmp(outputs.at, outputs2.at, outputs.length) ? "differ" : "same");
+            return 1;
+        }
+        numbers[KRTOVALIN_NUMBER(a) < 12 ? KRTOVALIN_NUMBER(a) : 0]++;
+        free(whole.at), free(image.at), free(state.at), free(drives.at), free(outputs.at), free(state2.at), free(outputs2.at);
+    }
+    printf("%lu calls agree; by number:", calls);
+    for (int i = 0; i < 12; i++)
+        printf(" %lu", numbers[i]);
+    printf("\n");
+    return 0;
+}
