@@ -1,0 +1,170 @@
+#!/usr/bin/env python3
+"""What crates/bench_circuit has to print, from document 01 alone: python3 model.py CASES.rt > stdout
+
+Reads the calls in src/cases.rt in the order in which they stand there, and shares nothing with the proved crates. A curve's current is the
+integral of its slope from zero, summed stretch by stretch; a bound is searched for from a quotient and then tested."""
+import re
+import struct
+import sys
+
+M, STORED, TOP = 2**25, 2**57, 2**64
+
+
+class Circuit:
+    """An image as document 01 lays it out; only what these cases need is tested."""
+
+    def __init__(self, image):
+        t = image[-16:]
+        e_back, c_back, elements, curves, self.nodes, self.driven, rate, out, version, size = struct.unpack('<HHBBBBIBBH', t)
+        self.ok = size == 16 and version == 1 and e_back == len(image) - 16 and 1 <= out <= self.nodes
+        if not self.ok:
+            return
+        first = len(image) - 16 - e_back
+        at = len(image) - 16 - c_back
+        self.curves = []
+        for _ in range(curves):
+            m = image[at]
+            slopes = struct.unpack_from('<%dI' % (m + 1), image, at + 4)
+            points = struct.unpack_from('<%di' % m, image, at + 8 + 4 * m)
+            self.curves.append((slopes, points))
+            at += 8 + 8 * m
+        self.elements = []
+        for j in range(elements):
+            kind, p, q, k, value = struct.unpack_from('<BBBBI', image, first + 8 * j)
+            g = {1: lambda: 10**9 // value, 2: lambda: 2 * value * rate // 1000, 3: lambda: 10**15 // (2 * value * rate), 4: lambda: None}[kind]()
+            assert kind == 4 or 1 <= g <= 2**30
+            self.elements.append((kind, p, q, k, g))
+
+    def curve(self, k, v):
+        """The slope integrated from 0 to v."""
+        slopes, points = self.curves[k]
+        edges = [-10**30] + list(points) + [10**30]
+        low, high = min(0, v), max(0, v)
+        area = sum(s * max(0, min(high, b) - max(low, a)) for s, a, b in zip(slopes, edges, edges[1:]))
+        return area if v >= 0 else -area
+
+    def flow(self, j, volts, stored):
+        kind, p, q, k, g = self.elements[j]
+        v = volts[p] - volts[q]
+        if kind == 4:
+            return self.curve(k, v)
+        return g * v - (stored[j] if kind in (2, 3) else 0)
+
+    def net(self, i, volts, stored):
+        total = volts[i]
+        for j, (_, p, q, _, _) in enumerate(self.elements):
+            total += self.flow(j, volts, stored) * ((p == i) - (q == i))
+        return total
+
+    def held(self, i):
+        return 1 + sum(g for kind, p, q, _, g in self.elements if kind != 4 and i in (p, q) and (p + q - i) <= self.driven)
+
+    def steepest(self, i):
+        return 1 + sum(max(self.curves[k][0]) if kind == 4 else g for kind, p, q, k, g in self.elements if i in (p, q))
+
+    def bound(self, e):
+        free = range(self.driven + 1, self.nodes + 1)
+        if not free:
+            return None
+        b = max((self.steepest(i) + e) // self.held(i) for i in free)
+        while any(b * self.held(i) < self.steepest(i) + e for i in free):
+            b += 1
+        return b if b < TOP else None
+
+    def advance(self, volts, stored):
+        new = list(stored)
+        for j, (kind, p, q, _, g) in enumerate(self.elements):
+            v = volts[p] - volts[q]
+            new[j] = {1: 0, 2: 2 * (g or 0) * v - stored[j], 3: stored[j] - 2 * (g or 0) * v, 4: 0}[kind]
+        return new if all(abs(x) <= STORED for x in new) else None
+
+
+def row(*numbers):
+    return ''.join(' %d' % n for n in numbers)
+
+
+def circuit(image):
+    c = Circuit(image)
+    if not c.ok:
+        return print('  the image is refused')
+    every = range(c.nodes + 1)
+    print('  held' + row(*map(c.held, every)) + ' steepest' + row(*map(c.steepest, every)))
+    bounds = [c.bound(e) for e in (0, 1, 10**12, TOP - 2, TOP - 1)]
+    print('  B' + ''.join(' none' if b is None else ' %d' % b for b in bounds))
+
+
+def sample(image, volts, stored):
+    c = Circuit(image)
+    volts, stored = (volts + [0] * 16)[:16], (stored + [0] * 32)[:32]
+    if not c.ok:
+        return print('  the image is refused')
+    if any(abs(v) > M for v in volts):
+        return print('  a voltage is out of range')
+    if any(abs(x) > STORED for x in stored):
+        return print('  a stored current is beyond its limit')
+    n = len(c.elements)
+    line = '  flow' + row(*(c.flow(j, volts, stored) for j in range(n)))
+    line += ' net' + row(*(c.net(i, volts, stored) for i in range(c.nodes + 1)))
+    new = c.advance(volts, stored)
+    after = stored if new is None else new
+    print(line + (' beyond' if new is None else ' stored') + row(*after[:n + 1]))
+
+
+def step(x):
+    return (x * 1103515245 + 12345) % 2**31
+
+
+def signed(x, n):
+    return -n if x // 65536 % 2 == 1 else n
+
+
+def noise(image, n, rounds):
+    x = rounds
+    for _ in range(rounds):
+        x = step(x)
+        volts, stored, s = [0], [], x
+        for _ in range(15):
+            s = step(s)
+            volts.append(signed(s, step(s) % (M + 1)))
+        s = step(x)
+        for j in range(32):
+            s = step(s)
+            stored.append(signed(s, step(s) * 2**26 + step(step(s)) % 2**26) if j < n else 0)
+        sample(image, volts, stored)
+
+
+def across(image, v):
+    n = abs(v)
+    a, b = n // 2, n - n // 2
+    sample(image, [0, a, -b] if v >= 0 else [0, -a, b], [])
+
+
+CALL = re.compile(r'\b(hex|circuit|sample|filled|around|noise)\(((?:[^()"]|"[^"]*")*)\)', re.S)
+
+
+def main(path):
+    text = re.sub(r'^\s*//.*$', '', open(path).read(), flags=re.M)
+    text = text[text.index('fn divider'):text.index('pub fn all')]
+    image = None
+    for name, words in CALL.findall(text):
+        strings = re.findall(r'b"([^"]*)"', words)
+        if name == 'hex':
+            image = bytes.fromhex(strings[0])
+            continue
+        lists = [[int(n) for n in s.split()] for s in strings] if name != 'circuit' else []
+        plain = [int(w) for w in re.sub(r'b"[^"]*"', '', words).replace(' ', '').replace('\n', '').split(',') if w.lstrip('-').isdigit()]
+        if name == 'circuit':
+            print(strings[0])
+            circuit(image)
+        elif name == 'sample':
+            sample(image, lists[0], lists[1])
+        elif name == 'filled':
+            sample(image, lists[0], [plain[0]] * 32)
+        elif name == 'around':
+            for v in lists[0]:
+                across(image, v)
+        elif name == 'noise':
+            noise(image, *plain)
+
+
+main(sys.argv[1])
