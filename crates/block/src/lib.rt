@@ -6,7 +6,7 @@ mod play;
 mod run;
 mod state;
 
-pub use call::block;
-pub use call::krtovalin_block;
 pub use call::Played;
 pub use call::State;
+pub use call::block;
+pub use call::krtovalin_block;

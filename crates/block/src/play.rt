@@ -1,9 +1,9 @@
 // A block: the image is read, the state and the lengths are tested, and then its samples are played.
-use circuit::lines;
-use circuit::opening;
 use crate::lengths;
 use crate::run;
 use crate::state;
+use circuit::lines;
+use circuit::opening;
 use image::Answer;
 use image::Circuit;
 ghost use mathlib.Core.Path.{_≡_};
@@ -53,7 +53,18 @@ fn play_circuit(
     let lines = lines::table(image, &start);
     let steep = opening::steepest_sums(image, &board, &lines);
     let mut volts = [0i64; 16];
-    run::run(image, &board, &lines, &steep, c.output, n as usize, drives, x, &mut volts, outputs)
+    run::run(
+        image,
+        &board,
+        &lines,
+        &steep,
+        c.output,
+        n as usize,
+        drives,
+        x,
+        &mut volts,
+        outputs,
+    )
 }
 
 // A block of any image: its number times 65,536, and the count of the samples that were accepted.

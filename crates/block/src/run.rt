@@ -1,6 +1,6 @@
 // The samples of a block, one after the other, up to the first that is refused.
-use circuit::board;
 use crate::drives;
+use circuit::board;
 use solve::sample;
 use solve::settle;
 use units::bytes;

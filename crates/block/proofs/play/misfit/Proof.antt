@@ -17,15 +17,21 @@ mul-result c =
     omega (arith, e, number-small (c .before .before .read .result .answer))
 
 returns : tie.Need-returns
-returns c = (omega arith, λ x n drives outputs not.
-    let r = c .before .before .read in
-    rw (c .before .number-of .ensures) (image-no (c .before .before .before .before .args .image .now) (r .result) x n drives outputs (r .ensures) (λ e. c .if1 .taken (c .before .number-of .ensures ∙ e))))
+returns c = (
+  omega arith,
+  λ x n drives outputs not.
+      let r = c .before .before .read in
+      rw (c .before .number-of .ensures) (image-no (c .before .before .before .before .args .image .now) (r .result) x n drives outputs (r .ensures) (λ e. c .if1 .taken (c .before .number-of .ensures ∙ e))),
+)
 
 returns-2 : tie.Need-returns-2
-returns-2 c = (refl, λ x n drives outputs not.
-    let r = c .before .before .read in
-    let image = c .before .before .before .before .args .image .now in
-    state-misfit image (r .result .circuit) (opens image (r .result) (r .ensures) (sym (c .before .number-of .ensures) ∙ c .if1 .left)) x n drives outputs not)
+returns-2 c = (
+  refl,
+  λ x n drives outputs not.
+      let r = c .before .before .read in
+      let image = c .before .before .before .before .args .image .now in
+      state-misfit image (r .result .circuit) (opens image (r .result) (r .ensures) (sym (c .before .number-of .ensures) ∙ c .if1 .left)) x n drives outputs not,
+)
 
 pub misfit-spec : {M : Type 1} → statement M
 misfit-spec = tie.close (tie.spec read-requires number-of-requires mul-result returns returns-2)

@@ -53,9 +53,10 @@ run-requires c κs =
     let o = s .pre .0 in
     let b = c .before .before .before .before .before .before .before .before .before .before .before .before .before .before .before .before .before .before .board in
     let legal = if-passed (c .before .before .before .before .before .before .before .before .before .before .before .before .before .before .before .legal .result) (c .before .before .before .before .before .before .before .before .before .before .before .before .before .before .before .legal .ensures) (not-false _ (c .before .before .before .before .before .before .before .before .before .before .before .before .before .before .if1 .left)) in
-    let fit = if-passed (c .before .before .before .before .before .before .before .before .before .before .before .before .before .fit .result) (c .before .before .before .before .before .before .before .before .before .before .before .before .before .fit .ensures) (not-false _ (c .before .before .before .before .before .before .before .before .before .before .before .before .if2 .left)) in
-    (playing-first (a .image .now) (a .c) o (b .result) (b .ensures) (a .x .now) (a .n) (a .drives .now) (a .outputs .now) (c .before .before .before .before .before .before .before .before .before .table .result) (c .before .before .before .before .before .before .steepest-sums .result) (c .before .before .before .before .before .before .before .before .before .table .ensures) (c .before .before .before .before .before .before .steepest-sums .ensures) legal,
-    room-is (a .image .now) (a .c) o (b .result) (b .ensures) (a .x .now) (a .n) (a .drives .now) (a .outputs .now) fit)
+    let fit = if-passed (c .before .before .before .before .before .before .before .before .before .before .before .before .before .fit .result) (c .before .before .before .before .before .before .before .before .before .before .before .before .before .fit .ensures) (not-false _ (c .before .before .before .before .before .before .before .before .before .before .before .before .if2 .left)) in (
+      playing-first (a .image .now) (a .c) o (b .result) (b .ensures) (a .x .now) (a .n) (a .drives .now) (a .outputs .now) (c .before .before .before .before .before .before .before .before .before .table .result) (c .before .before .before .before .before .before .steepest-sums .result) (c .before .before .before .before .before .before .before .before .before .table .ensures) (c .before .before .before .before .before .before .steepest-sums .ensures) legal,
+      room-is (a .image .now) (a .c) o (b .result) (b .ensures) (a .x .now) (a .n) (a .drives .now) (a .outputs .now) fit,
+    )
 
 same-length : tie.Need-same-length
 same-length c = search needs
