@@ -20,7 +20,7 @@ place-requires c κs =
     let e = c .before .driven .ensures in
     let n = s .pre .0 .ready .limits in
     let k = c .before .before .copied .ensures in
-    (omega (arith, e, n .few-nodes, n .wired .driven-there), s .pre .1 .few, rw e (s .pre .1 .there), ap length (k .0) ∙ k .1)
+    (omega (arith, e, n .few-nodes, n .wired .driven-there), omega (arith, s .pre .1 .few), rw e (omega (arith, s .pre .1 .there)), ap length (k .0) ∙ k .1)
 
 sample-requires : tie.Need-sample-requires
 sample-requires c κs =
