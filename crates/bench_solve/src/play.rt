@@ -6,9 +6,6 @@ use image::Answer;
 use image::Circuit;
 use libc::STDOUT_FILENO;
 use solve::sample;
-use solve::settle;
-use std::num::wrapping_add_u64 as plus;
-use std::num::wrapping_mul_u64 as times;
 use units::signed;
 ghost use mathlib.Core.Path.{_≡_};
 ghost use Prim.Native.Nat.{ℕ, _≤_, _<_};
@@ -28,26 +25,36 @@ fn number(z: i64) {
     io::print_decimal(STDOUT_FILENO, signed::size(z));
 }
 
-// Half a wave of about a sine: 0 to 1,000,000 and back for p from 0 to 24.
-fn arch(p: u64) -> u64 {
-    if p < 25 {
-        return p * (24 - p) * 6944;
-    }
-    0
-}
-
-// A wave with a period of 48 samples.
-fn wave(k: u64) -> i64 {
-    let p = k % 48;
-    if p < 24 {
-        return signed::whole(arch(p) % 1000001);
-    }
-    signed::minus(0, signed::whole(arch(p - 24) % 1000001))
-}
-
-// The drive of sample k: two waves together.
+// The drive of sample k: two sines of 2 V together, 440 and 1,000 Hz.
 fn drive(k: u64) -> i64 {
-    signed::plus(wave(plus(k, 3)), wave(times(k, 5)))
+    let wave = [
+        376180i64,
+        747512,
+        1109225,
+        1456701,
+        1785553,
+        2091689,
+        2371380,
+        2621321,
+        2838676,
+        3021129,
+        3166916,
+        3274847,
+        3344331,
+        3375372,
+        3368570,
+        3325110,
+        3246731,
+        3135697,
+        2994757,
+        2827090,
+        2636254,
+        2426118,
+        2200796,
+        1964574,
+    ];
+    let p = (k % 24) as usize;
+    wave[p]
 }
 
 // What proposal number `which` has at a node whose last answer was v.
@@ -65,10 +72,16 @@ fn proposal(which: u64, v: i64) -> i64 {
         return -33554432;
     }
     if which == 4 {
-        return signed::plus(v % 1000000000, 1);
+        if signed::size(v) < 1000000000 {
+            return signed::plus(v, 1);
+        }
+        return 1;
     }
     if which == 5 {
-        return signed::minus(v % 1000000000, 1);
+        if signed::size(v) < 1000000000 {
+            return signed::minus(v, 1);
+        }
+        return 0;
     }
     9223372036854775807
 }
@@ -131,14 +144,8 @@ fn agree(image: &[u8], board: &[u64; 164], lines: &[i64; 136], steep: &[u64; 16]
     true
 }
 
-// Sample k on the stored currents themselves, from the last answer. Document 01's number.
-fn advance(image: &[u8], board: &[u64; 164], lines: &[i64; 136], steep: &[u64; 16], stored: &mut [i64; 32], k: u64, last: &mut [i64; 16]) -> u64
-    requires { ⌜ Given (now image) (now board) (now lines) (now steep) (now stored) ⌝ }
-    ensures { λ r. ⌜ Given (now (image .entry)) (now (board .entry)) (now (lines .entry)) (now (steep .entry)) (now (stored .exit)) ⌝ }
-{
-    let mut volts = propose(0, k, last);
-    let r = sample::sample(image, board, lines, steep, &mut volts, stored);
-    *last = volts;
+// Document 01's number.
+fn number_of(r: sample::Outcome) -> u64 {
     match r {
         sample::Outcome::Accepted => 0,
         sample::Outcome::DriveRefused => 9,
@@ -147,9 +154,20 @@ fn advance(image: &[u8], board: &[u64; 164], lines: &[i64; 136], steep: &[u64; 1
     }
 }
 
+// Sample k on the stored currents themselves, from the last answer. Document 01's number.
+fn advance(image: &[u8], board: &[u64; 164], lines: &[i64; 136], steep: &[u64; 16], stored: &mut [i64; 32], k: u64, last: &mut [i64; 16]) -> u64
+    requires { ⌜ Given (now image) (now board) (now lines) (now steep) (now stored) ⌝ }
+    ensures { λ r. ⌜ Given (now (image .entry)) (now (board .entry)) (now (lines .entry)) (now (steep .entry)) (now (stored .exit)) ⌝ }
+{
+    let mut volts = propose(0, k, last);
+    let r = sample::sample(image, board, lines, steep, &mut volts, stored);
+    *last = volts;
+    number_of(r)
+}
+
 // One more voltage in a checksum.
 fn mixed(sum: u64, v: i64) -> u64 {
-    plus(times(sum, 31), signed::size(v)) % 1000000007
+    ((sum % 1000000007) * 31 + signed::size(v) % 1000000007) % 1000000007
 }
 
 // All nodes in it.
@@ -177,6 +195,21 @@ fn show(nodes: usize, volts: &[i64; 16]) {
     text(b"\n");
 }
 
+fn refused() {
+    text(b" refused\n");
+}
+
+fn differ() {
+    text(b" differ\n");
+}
+
+fn agreed(sum: u64, nodes: usize, last: &[i64; 16]) {
+    text(b" agree, sum ");
+    io::print_decimal(STDOUT_FILENO, sum);
+    text(b", last");
+    show(nodes, last);
+}
+
 // n samples.
 fn samples(image: &[u8], board: &[u64; 164], lines: &[i64; 136], steep: &[u64; 16], stored: &mut [i64; 32], n: u64)
     requires { ⌜ Given (now image) (now board) (now lines) (now steep) (now stored) ⌝ }
@@ -191,18 +224,15 @@ fn samples(image: &[u8], board: &[u64; 164], lines: &[i64; 136], steep: &[u64; 1
                 sum = mixed_all(sum, nodes, &last);
                 k += 1;
             } else {
-                text(b" refused\n");
+                refused();
                 return;
             }
         } else {
-            text(b" differ\n");
+            differ();
             return;
         }
     }
-    text(b" agree, sum ");
-    io::print_decimal(STDOUT_FILENO, sum);
-    text(b", last");
-    show(nodes, &last);
+    agreed(sum, nodes, &last);
 }
 
 // An accepted image.
