@@ -1,5 +1,5 @@
 -- One sample: that each of its ends is the outcome that network defines. Assumes nothing.
-use mathlib.Core.Path.{_≡_, refl, sym, _∙_}
+use mathlib.Core.Path.{_≡_, refl, sym, _∙_, subst}
 use mathlib.Core.Bool.{true, false}
 use mathlib.Core.List.{List}
 use mathlib.Core.Logic.{inl, inr}
@@ -9,13 +9,17 @@ use lib.IntN.{ℤ, pos}
 use lib.ListN.{length}
 use Rattle.units.specs.Voltage.{voltageLimit}
 use Rattle.units.proofs.Integers.{signs, pos-law, abs-law}
-use Rattle.network.specs.Network.{reading}
+use Rattle.network.specs.Network.{reading, steepest}
 use Rattle.network.specs.Sample.{Answer, Empty}
 use Rattle.network.proofs.Ranges.{legal-in-range}
 use Rattle.circuit.specs.Board.{nodesOn, networkOn, Ready, Kept, Ranged, Evaluable}
 use Rattle.circuit.specs.Advance.{AllKept, StoredTo}
+use Rattle.circuit.specs.Opening.{steepestSums}
+use Rattle.image.proofs.Tables.{padded-at}
+use Rattle.solve.specs.Search.{Steep}
 use Rattle.solve.specs.Answer.{drivesAt, Solvable}
 use Rattle.solve.specs.Sample.{DrivesTested, TopTested, Given, Sampled}
+use Rattle.solve.specs.declared.sample.Outcome.{Outcome}
 use Rattle.solve.specs.declared.sample.Outcome.the-variants.{Accepted, DriveRefused, RailRefused, StoredRefused}
 
 module _ (image board : List ℕ) (volts stored : List ℤ) where
@@ -76,3 +80,21 @@ module _ (image board : List ℕ) (volts stored : List ℤ) where
           };
           carried = same;
         }
+
+-- ---- from one sample to the next
+
+-- whatever came of a sample, the stored currents are still within their limit
+module _ (image board : List ℕ) (lines : List ℤ) (steep : List ℕ) (volts stored volts′ stored′ : List ℤ) (g : Given image board lines steep stored) where
+  -- a refused sample leaves them
+  left : stored′ ≡ stored → Given image board lines steep stored′
+  left e = subst (λ (l : List ℤ). Given image board lines steep l) (sym e) g
+
+  pub given-after : (r : Outcome) → Sampled image board volts stored volts′ stored′ r → Given image board lines steep stored′
+  given-after Accepted s = record { ready = g .ready; steepest-sums = g .steepest-sums; kept = s .gives .kept; long = s .carried .0 ∙ g .long }
+  given-after DriveRefused s = left (s .carried)
+  given-after RailRefused s = left (s .carried)
+  given-after StoredRefused s = left (s .carried)
+
+-- the array that the opening makes has the steepest sums
+pub steep-of : (image board : List ℕ) (lines : List ℤ) (steep : List ℕ) → Ready image board lines → steep ≡ steepestSums image board → Steep image board steep
+steep-of image board lines steep ready e i free = rw e (padded-at 16 (steepest (networkOn image board)) 16 i (omega arith) (omega (arith, free .1, ready .limits .few-nodes)))
