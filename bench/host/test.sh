@@ -1,0 +1,11 @@
+#!/bin/sh
+# Holds the proved block against the second program: every case, then random calls under AddressSanitizer with buffers of exact size.
+set -e
+cd "$(dirname "$0")/../.."
+bench/build.sh
+rt staticlib block
+block=target/staticlib/libblock.a
+cc -O2 -Wall -Wextra -Iinclude bench/host/render.c $block -o target/bench/krtovalin
+python3 bench/cases/cases.py check target/bench/krtovalin
+cc -O1 -g -fsanitize=address -Wall -Wextra -Iinclude bench/host/compare.c $block target/bench/libsecond.a -lpthread -ldl -lm -o target/bench/compare
+target/bench/compare "${1:-20000}" bench/cases/data/*.image
