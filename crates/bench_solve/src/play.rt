@@ -99,7 +99,16 @@ fn propose(which: u64, k: u64, last: &[i64; 16]) -> [i64; 16] {
 }
 
 // One sample on a copy of the stored currents: its voltages.
-fn attempt(image: &[u8], board: &[u64; 164], lines: &[i64; 136], steep: &[u64; 16], stored: &[i64; 32], which: u64, k: u64, last: &[i64; 16]) -> [i64; 16]
+fn attempt(
+    image: &[u8],
+    board: &[u64; 164],
+    lines: &[i64; 136],
+    steep: &[u64; 16],
+    stored: &[i64; 32],
+    which: u64,
+    k: u64,
+    last: &[i64; 16],
+) -> [i64; 16]
     requires { ⌜ Given (now image) (now board) (now lines) (now steep) (now stored) ⌝ }
 {
     let mut x = *stored;
@@ -127,7 +136,15 @@ fn alike(nodes: usize, a: &[i64; 16], b: &[i64; 16]) -> bool {
 }
 
 // Whether all proposals come to the same.
-fn agree(image: &[u8], board: &[u64; 164], lines: &[i64; 136], steep: &[u64; 16], stored: &[i64; 32], k: u64, last: &[i64; 16]) -> bool
+fn agree(
+    image: &[u8],
+    board: &[u64; 164],
+    lines: &[i64; 136],
+    steep: &[u64; 16],
+    stored: &[i64; 32],
+    k: u64,
+    last: &[i64; 16],
+) -> bool
     requires { ⌜ Given (now image) (now board) (now lines) (now steep) (now stored) ⌝ }
 {
     let nodes = board::nodes(board);
@@ -155,7 +172,15 @@ fn number_of(r: sample::Outcome) -> u64 {
 }
 
 // Sample k on the stored currents themselves, from the last answer. Document 01's number.
-fn advance(image: &[u8], board: &[u64; 164], lines: &[i64; 136], steep: &[u64; 16], stored: &mut [i64; 32], k: u64, last: &mut [i64; 16]) -> u64
+fn advance(
+    image: &[u8],
+    board: &[u64; 164],
+    lines: &[i64; 136],
+    steep: &[u64; 16],
+    stored: &mut [i64; 32],
+    k: u64,
+    last: &mut [i64; 16],
+) -> u64
     requires { ⌜ Given (now image) (now board) (now lines) (now steep) (now stored) ⌝ }
     ensures { λ r. ⌜ Given (now (image .entry)) (now (board .entry)) (now (lines .entry)) (now (steep .entry)) (now (stored .exit)) ⌝ }
 {
@@ -211,7 +236,14 @@ fn agreed(sum: u64, nodes: usize, last: &[i64; 16]) {
 }
 
 // n samples.
-fn samples(image: &[u8], board: &[u64; 164], lines: &[i64; 136], steep: &[u64; 16], stored: &mut [i64; 32], n: u64)
+fn samples(
+    image: &[u8],
+    board: &[u64; 164],
+    lines: &[i64; 136],
+    steep: &[u64; 16],
+    stored: &mut [i64; 32],
+    n: u64,
+)
     requires { ⌜ Given (now image) (now board) (now lines) (now steep) (now stored) ⌝ }
 {
     let nodes = board::nodes(board);
