@@ -15,6 +15,10 @@ ghost use Rattle.image.specs.Opened.{numberOf};
 ghost use Rattle.block.specs.Call.{Packed};
 ghost use Rattle.block.specs.Playing.{Opens};
 
+// Document 01's numbers 7 and 8 times 65,536: with a count of 0.
+const STATE_REFUSED: u64 = 458752;
+const LENGTHS_REFUSED: u64 = 524288;
+
 // Document 01's number of an answer.
 pub fn number_of(answer: Answer) -> u64
     ensures { λ r. ⌜ r ≡ numberOf answer ⌝ }
@@ -44,10 +48,10 @@ fn play_circuit(
 {
     let board = opening::board(c);
     if !state::legal(image, &board, x) {
-        return 458752;
+        return STATE_REFUSED;
     }
     if !lengths::fit(c.driven, n, drives.len(), outputs.len()) {
-        return 524288;
+        return LENGTHS_REFUSED;
     }
     let start = c.start;
     let lines = lines::table(image, &start);
@@ -91,5 +95,5 @@ pub fn misfit(image: &[u8]) -> u64
     if number != 0 {
         return number * 65536;
     }
-    458752
+    STATE_REFUSED
 }
