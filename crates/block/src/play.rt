@@ -17,6 +17,7 @@ ghost use Rattle.block.specs.Playing.{Opens};
 
 // Document 01's numbers 7 and 8 times 65,536: with a count of 0.
 const STATE_REFUSED: u64 = 458752;
+
 const LENGTHS_REFUSED: u64 = 524288;
 
 // Document 01's number of an answer.
