@@ -4,7 +4,7 @@ pub mod advance;
 pub mod board;
 pub mod bound;
 pub mod branch;
-mod curve;
+pub mod curve;
 pub mod lines;
 pub mod node;
 pub mod opening;

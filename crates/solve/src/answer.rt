@@ -11,25 +11,10 @@ ghost use mathlib.Core.Path.{_≡_};
 ghost use mathlib.Core.Bool.{true};
 ghost use Prim.Native.Nat.{ℕ, _≤_, _<_};
 ghost use lib.IntN.{ℤ};
-ghost use Rattle.units.specs.Voltage.{InRange};
 ghost use Rattle.network.specs.Network.{nodeLimit};
 ghost use Rattle.circuit.specs.Board.{nodesOn, drivenOn, Evaluable};
 ghost use Rattle.solve.specs.Search.{Steep, Searching};
 ghost use Rattle.solve.specs.Answer.{Placed, Seated, Start, Ended, Solvable, Solved};
-
-// The voltage in range that is nearest to v.
-fn clamped(v: i64) -> i64
-    ensures { λ r. ⌜ InRange r ⌝ }
-{
-    let u = Voltage { microvolts: v };
-    if u.in_range() {
-        return v;
-    }
-    if signed::less(v, 0) {
-        return signed::minus(0, Voltage::LIMIT);
-    }
-    Voltage::LIMIT
-}
 
 // Where a free node begins: at the top, or where it is, brought into range.
 fn placed(top: bool, v: i64) -> i64
@@ -38,7 +23,7 @@ fn placed(top: bool, v: i64) -> i64
     if top {
         return Voltage::LIMIT;
     }
-    clamped(v)
+    Voltage::clamped(v)
 }
 
 // Ground at zero and every free node so; the driven nodes keep their drives.

@@ -1,3 +1,4 @@
+pub mod Clamping
 pub mod Doubling
 pub mod Integers
 pub mod LittleEndian

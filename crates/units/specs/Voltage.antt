@@ -1,8 +1,9 @@
 -- The voltage: whole microvolts, its two limits, and what lies within them. Assumes nothing.
-use mathlib.Core.Bool.{Bool}
+use mathlib.Core.Bool.{Bool, cond}
 use Prim.Native.Nat.{ℕ, _^_, _≤_}
 use lib.Dec.{leb}
-use lib.IntN.{ℤ, natAbs}
+use lib.IntN.{ℤ, pos, negℤ, natAbs}
+use lib.Signed.{ltZ}
 
 -- the voltage limit, 33,554,432 µV
 abbrev pub voltageLimit : ℕ
@@ -25,3 +26,7 @@ InRange z = Within voltageLimit z
 
 abbrev pub InDrive : ℤ → Type 0
 InDrive z = Within driveLimit z
+
+-- the voltage in range that is nearest to v
+unfoldable pub clamped : ℤ → ℤ
+clamped v = cond (within voltageLimit v) v (cond (ltZ v (pos 0)) (negℤ (pos voltageLimit)) (pos voltageLimit))

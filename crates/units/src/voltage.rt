@@ -5,7 +5,7 @@ ghost use mathlib.Core.Path.{_≡_};
 ghost use mathlib.Core.Bool.{true, false};
 ghost use Prim.Native.Nat.{ℕ, _≤_, _^_};
 ghost use lib.IntN.{ℤ, natAbs};
-ghost use Rattle.units.specs.Voltage.{within, voltageLimit, driveLimit};
+ghost use Rattle.units.specs.Voltage.{within, voltageLimit, driveLimit, clamped};
 ghost use Rattle.units.specs.Float.{Converted, Positive, nearestSize, rounded, nearestVoltage};
 
 pub struct Voltage {
@@ -65,6 +65,20 @@ impl Voltage {
         ensures { λ r. ⌜ r ≡ within driveLimit (self .microvolts) ⌝ }
     {
         within(self.microvolts, Voltage::DRIVE_LIMIT)
+    }
+
+    // The voltage in range that is nearest to v.
+    pub fn clamped(v: i64) -> i64
+        ensures { λ r. ⌜ r ≡ clamped v ⌝ }
+    {
+        let u = Voltage { microvolts: v };
+        if u.in_range() {
+            return v;
+        }
+        if signed::less(v, 0) {
+            return signed::minus(0, Voltage::LIMIT);
+        }
+        Voltage::LIMIT
     }
 
     // The nearest f64, which for a voltage in range is that voltage exactly.

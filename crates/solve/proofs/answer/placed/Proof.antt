@@ -4,6 +4,7 @@ use native.Mathlib.Omega.{arith}
 use mir.Syntax.{w64}
 use mir.Val.{toZ, ofZ}
 use borrow.Author.Needs.{needs}
+use Rattle.units.proofs.Clamping.{clamped-ranged}
 use Rattle.solve.proofs.answer.placed.Statement.{statement}
 use Rattle.solve.proofs.answer.placed.Tie as tie
 
@@ -16,7 +17,7 @@ clamped-requires c κs = search needs
 returns-2 : tie.Need-returns-2
 returns-2 c =
     let e : toZ w64 (ofZ w64 (c .clamped .result)) ≡ c .clamped .result = search needs in
-    record { ranged = rw e (c .clamped .ensures); topmost = λ t. absurd (false≢true (sym (c .before .if1 .left) ∙ t)) }
+    record { ranged = rw (e ∙ c .clamped .ensures) (clamped-ranged _); topmost = λ t. absurd (false≢true (sym (c .before .if1 .left) ∙ t)) }
 
 pub placed-spec : {M : Type 1} → statement M
 placed-spec = tie.close (tie.spec returns clamped-requires returns-2)
