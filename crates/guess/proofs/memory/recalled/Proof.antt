@@ -1,0 +1,104 @@
+use mathlib.Core.Path.{_≡_, refl, sym, _∙_}
+use mir.Syntax.{w64}
+use mir.Val.{toZ, ofZ}
+use Rattle.network.specs.Network.{reading}
+use Rattle.circuit.specs.Board.{nodesOn, drivenOn}
+use Rattle.guess.proofs.PlaceLaws.{ProposedTo, proposed-none, proposed-more, proposed-all}
+use Prim.Native.Nat.{ℕ, _+_, _-_, _≤_, _<_}
+use native.Mathlib.Omega.{arith}
+use borrow.Author.Needs.{needs}
+use Rattle.guess.proofs.memory.recalled.Statement.{statement}
+use Rattle.guess.proofs.memory.recalled.Tie as tie
+
+abbrev Inv-loop : tie.InvT-loop
+Inv-loop board guess distance volts after₀ nodes i₀ after i = (drivenOn board < i) × (i ≤ nodes + 1) × (nodes ≤ 15) × (nodes ≡ nodesOn board) × ProposedTo board volts after i
+
+abbrev μ-loop : tie.MeasureT-loop
+μ-loop board guess distance volts after₀ nodes i₀ after i = 16 - i
+
+copied-requires : tie.Need-copied-requires Inv-loop μ-loop
+copied-requires c κs = search needs
+
+nodes-requires : tie.Need-nodes-requires Inv-loop μ-loop
+nodes-requires c κs = search needs
+
+driven-requires : tie.Need-driven-requires Inv-loop μ-loop
+driven-requires c κs = search needs
+
+add-i : tie.Need-add-i Inv-loop μ-loop
+add-i c = let s = c .before .before .before .before in record { fits = omega (arith, c .driven .ensures, s .pre .0, s .pre .1) }
+
+loop-holds : tie.Need-loop-holds Inv-loop μ-loop
+loop-holds c =
+    let s = c .before .before .before .before in
+    let a = s .args in
+    let k = c .before .before .copied .ensures in (
+      omega (arith, c .driven .ensures),
+      omega (arith, c .driven .ensures, c .before .nodes .ensures, s .pre .1),
+      omega (arith, c .before .nodes .ensures, s .pre .0),
+      c .before .nodes .ensures,
+      rw (c .driven .ensures, k .0) (proposed-none (a .board .now) (a .volts .now) (k .1)),
+    )
+
+mul-sum : tie.Need-mul-sum Inv-loop μ-loop
+mul-sum c = search needs
+
+element-copy-out-sum : tie.Need-element-copy-out-sum Inv-loop μ-loop
+element-copy-out-sum c = search needs
+
+mul-sum-2 : tie.Need-mul-sum-2 Inv-loop μ-loop
+mul-sum-2 c = search needs
+
+element-copy-out-sum-2 : tie.Need-element-copy-out-sum-2 Inv-loop μ-loop
+element-copy-out-sum-2 c = search needs
+
+sum-requires : tie.Need-sum-requires Inv-loop μ-loop
+sum-requires c κs = search needs
+
+mul-after : tie.Need-mul-after Inv-loop μ-loop
+mul-after c = search needs
+
+array-set-from-after : tie.Need-array-set-from-after Inv-loop μ-loop
+array-set-from-after c = search needs
+
+add-i-2 : tie.Need-add-i-2 Inv-loop μ-loop
+add-i-2 c = search needs
+
+loop-less : tie.Need-loop-less Inv-loop μ-loop
+loop-less c = search needs
+
+loop-again : tie.Need-loop-again Inv-loop μ-loop
+loop-again c =
+    let a = c .before .before .before .before .before .before .before .before .before .args in
+    let l = c .before .before .before .before .loop in
+    let e : toZ w64 (ofZ w64 (c .sum .result)) ≡ c .sum .result = search needs in
+    (omega arith, omega arith, l .inv .2, l .inv .3, proposed-more (a .board .now) (a .volts .now) (l .after) (l .i) (l .inv .4) _ (l .inv .0) (omega arith) (rw e (c .sum .ensures)))
+
+returns : tie.Need-returns Inv-loop μ-loop
+returns c =
+    let a = c .before .before .before .before .before .before .args in
+    let l = c .before .loop in
+    proposed-all (a .board .now) (a .volts .now) (l .after) (l .i) (l .inv .4) (omega (arith, l .inv .3))
+
+pub recalled-spec : {M : Type 1} → statement M
+recalled-spec =
+    tie.close
+    (tie.spec
+    Inv-loop
+    μ-loop
+    copied-requires
+    nodes-requires
+    driven-requires
+    add-i
+    loop-holds
+    mul-sum
+    element-copy-out-sum
+    mul-sum-2
+    element-copy-out-sum-2
+    sum-requires
+    mul-after
+    array-set-from-after
+    add-i-2
+    loop-less
+    loop-again
+    returns)

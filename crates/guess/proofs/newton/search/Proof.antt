@@ -1,0 +1,111 @@
+use borrow.Author.Tests.{ltb-true}
+use Prim.Native.Nat.{ℕ, _+_, _-_, _≤_, _<_}
+use native.Mathlib.Omega.{arith}
+use mathlib.Core.Path.{_≡_, refl, sym, _∙_}
+use Rattle.guess.specs.Proposal.{Standing}
+use borrow.Author.Needs.{needs}
+use Rattle.guess.proofs.newton.search.Statement.{statement}
+use Rattle.guess.proofs.newton.search.Tie as tie
+
+abbrev Inv-loop : tie.InvT-loop
+Inv-loop image board lines stored volts₀ driven nodes x₀ m₀ tangents₀ changed₀ difference₀ rounds₀ volts x m tangents changed difference rounds =
+    (nodes ≤ 15) × (rounds ≤ 12) × Standing board volts
+
+abbrev μ-loop : tie.MeasureT-loop
+μ-loop image board lines stored volts₀ driven nodes x₀ m₀ tangents₀ changed₀ difference₀ rounds₀ volts x m tangents changed difference rounds =
+    12 - rounds
+
+-- a round more is one of the twelve
+few : (c : tie.Then2 Inv-loop μ-loop) → c .before .before .before .loop .rounds < 12
+few c = ltb-true (c .before .before .before .loop .rounds) 12 (c .if2 .taken)
+
+driven-requires : tie.Need-driven-requires Inv-loop μ-loop
+driven-requires c κs = search needs
+
+nodes-requires : tie.Need-nodes-requires Inv-loop μ-loop
+nodes-requires c κs = search needs
+
+floats-requires : tie.Need-floats-requires Inv-loop μ-loop
+floats-requires c κs = c .before .before .before .before .pre .1 .few-nodes
+
+leaks-requires : tie.Need-leaks-requires Inv-loop μ-loop
+leaks-requires c κs = c .before .before .before .before .before .pre .1 .few-nodes
+
+taken-requires : tie.Need-taken-requires Inv-loop μ-loop
+taken-requires c κs = (c .before .before .before .before .before .before .before .before .pre .0, c .before .before .before .before .before .before .before .before .pre .1)
+
+loop-holds : tie.Need-loop-holds Inv-loop μ-loop
+loop-holds c = let s = c .before .before .before .before .before .before .before .before .before in (omega (arith, c .before .before .before .before .before .before .nodes .ensures, s .pre .1 .few-nodes), omega arith, s .pre .2)
+
+nets-requires : tie.Need-nets-requires Inv-loop μ-loop
+nets-requires c κs = c .before .before .before .before .before .before .before .before .before .before .before .before .before .before .pre .1
+
+solve-requires : tie.Need-solve-requires Inv-loop μ-loop
+solve-requires c κs = c .before .before .before .before .before .loop .inv .0
+
+returns : tie.Need-returns Inv-loop μ-loop
+returns c = c .before .before .before .before .before .before .before .before .loop .inv .2
+
+step-requires : tie.Need-step-requires Inv-loop μ-loop
+step-requires c κs = let s = c .before .before .before .before .before .before .before .before .before .before .before .before .before .before .before .before .before .before .before .before .before in (s .pre .1 .few-nodes, s .pre .1 .few-driven, c .before .before .before .before .before .before .before .before .before .before .before .loop .inv .2)
+
+enum-told : tie.Need-enum-told Inv-loop μ-loop
+enum-told c = search needs
+
+returns-2 : tie.Need-returns-2 Inv-loop μ-loop
+returns-2 c = c .before .before .step .ensures
+
+enum-known-d : tie.Need-enum-known-d Inv-loop μ-loop
+enum-known-d c = search needs
+
+retaken-requires : tie.Need-retaken-requires Inv-loop μ-loop
+retaken-requires c κs = let s = c .before .before .before .before .before .before .before .before .before .before .before .before .before .before .before .before .before .before .before .before .before .before .before .before .before .before .before in (record { ready = s .pre .0 .ready; kept = s .pre .0 .kept; ranged = c .before .before .before .before .before .step .ensures .ranged }, s .pre .1)
+
+add-rounds : tie.Need-add-rounds Inv-loop μ-loop
+add-rounds c = record { fits = omega (arith, few (c .before .before .before .before .before .before .before .before .before .before .before .before .before .before .before .before)) }
+
+loop-less : tie.Need-loop-less Inv-loop μ-loop
+loop-less c = omega (arith, few (c .before .before .before .before .before .before .before .before .before .before .before .before .before .before .before .before))
+
+loop-again : tie.Need-loop-again Inv-loop μ-loop
+loop-again c = (c .before .before .before .before .before .before .before .before .before .before .before .before .before .before .before .before .before .before .before .loop .inv .0, omega (arith, few (c .before .before .before .before .before .before .before .before .before .before .before .before .before .before .before .before)), c .before .before .before .before .before .before .before .step .ensures)
+
+nets-requires-2 : tie.Need-nets-requires-2 Inv-loop μ-loop
+nets-requires-2 c κs = c .before .before .before .before .before .before .before .before .before .before .before .before .pre .1
+
+largest-requires : tie.Need-largest-requires Inv-loop μ-loop
+largest-requires c κs = let s = c .before .before .before .before .before .before .before .before .before .before .before .before .before in (s .pre .1 .few-nodes, s .pre .1 .few-driven)
+
+returns-3 : tie.Need-returns-3 Inv-loop μ-loop
+returns-3 c = c .before .before .before .before .before .before .loop .inv .2
+
+returns-4 : tie.Need-returns-4 Inv-loop μ-loop
+returns-4 c = c .before .before .before .before .before .loop .inv .2
+
+pub search-spec : {M : Type 1} → statement M
+search-spec =
+    tie.close
+    (tie.spec
+    Inv-loop
+    μ-loop
+    driven-requires
+    nodes-requires
+    floats-requires
+    leaks-requires
+    taken-requires
+    loop-holds
+    nets-requires
+    solve-requires
+    returns
+    step-requires
+    enum-told
+    returns-2
+    enum-known-d
+    retaken-requires
+    add-rounds
+    loop-less
+    loop-again
+    nets-requires-2
+    largest-requires
+    returns-3
+    returns-4)

@@ -1,0 +1,88 @@
+use mathlib.Core.Path.{_≡_, refl, sym, _∙_}
+use Rattle.circuit.specs.Board.{countOn}
+use Prim.Native.Nat.{ℕ, _+_, _-_, _≤_, _<_}
+use native.Mathlib.Omega.{arith}
+use borrow.Author.Needs.{needs}
+use Rattle.guess.proofs.straight.retaken.Statement.{statement}
+use Rattle.guess.proofs.straight.retaken.Tie as tie
+
+abbrev Inv-loop : tie.InvT-loop
+Inv-loop image board lines stored volts m₀ next₀ changed₀ count j₀ m next changed j = (count ≡ countOn board) × (j ≤ count) × (count ≤ 32)
+
+abbrev μ-loop : tie.MeasureT-loop
+μ-loop image board lines stored volts m₀ next₀ changed₀ count j₀ m next changed j = 32 - j
+
+count-requires : tie.Need-count-requires Inv-loop μ-loop
+count-requires c κs = search needs
+
+loop-holds : tie.Need-loop-holds Inv-loop μ-loop
+loop-holds c = search needs
+
+kind-requires : tie.Need-kind-requires Inv-loop μ-loop
+kind-requires c κs = search needs
+
+of-diode-requires : tie.Need-of-diode-requires Inv-loop μ-loop
+of-diode-requires c κs =
+    let s = c .before .before .before .before .before .before in
+    (s .pre .0, omega (arith, c .before .before .before .loop .inv .0), sym (c .before .kind .ensures) ∙ c .if1 .taken)
+
+mul-old : tie.Need-mul-old Inv-loop μ-loop
+mul-old c = search needs
+
+array-copy-out-old : tie.Need-array-copy-out-old Inv-loop μ-loop
+array-copy-out-old c = search needs
+
+end-p-requires : tie.Need-end-p-requires Inv-loop μ-loop
+end-p-requires c κs = search needs
+
+end-q-requires : tie.Need-end-q-requires Inv-loop μ-loop
+end-q-requires c κs = search needs
+
+join-requires : tie.Need-join-requires Inv-loop μ-loop
+join-requires c κs =
+    let s = c .before .before .before .before .before .before .before .before .before .before .before .before .before .before .before .before in
+    let l = c .before .before .before .before .before .before .before .before .before .before .before .before .before .loop in
+    let there : l .j < countOn (s .args .board .now) = omega (arith, l .inv .0) in (
+      omega (arith, c .before .before .before .end-p .ensures, s .pre .1 .p-there (l .j) there, s .pre .1 .few-nodes),
+      omega (arith, c .before .before .end-q .ensures, s .pre .1 .q-there (l .j) there, s .pre .1 .few-nodes),
+    )
+
+mul-next : tie.Need-mul-next Inv-loop μ-loop
+mul-next c = search needs
+
+array-set-from-next : tie.Need-array-set-from-next Inv-loop μ-loop
+array-set-from-next c = search needs
+
+add-j : tie.Need-add-j Inv-loop μ-loop
+add-j c = search needs
+
+loop-less : tie.Need-loop-less Inv-loop μ-loop
+loop-less c = search needs
+
+loop-again : tie.Need-loop-again Inv-loop μ-loop
+loop-again c = search needs
+
+returns : tie.Need-returns Inv-loop μ-loop
+returns c = search needs
+
+pub retaken-spec : {M : Type 1} → statement M
+retaken-spec =
+    tie.close
+    (tie.spec
+    Inv-loop
+    μ-loop
+    count-requires
+    loop-holds
+    kind-requires
+    of-diode-requires
+    mul-old
+    array-copy-out-old
+    end-p-requires
+    end-q-requires
+    join-requires
+    mul-next
+    array-set-from-next
+    add-j
+    loop-less
+    loop-again
+    returns)

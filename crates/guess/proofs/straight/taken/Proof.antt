@@ -1,0 +1,75 @@
+use mathlib.Core.Path.{_≡_, refl, sym, _∙_}
+use mathlib.Core.Path.{_≡_}
+use Rattle.circuit.specs.Board.{countOn}
+use Prim.Native.Nat.{ℕ, _+_, _-_, _≤_, _<_}
+use native.Mathlib.Omega.{arith}
+use borrow.Author.Needs.{needs}
+use Rattle.guess.proofs.straight.taken.Statement.{statement}
+use Rattle.guess.proofs.straight.taken.Tie as tie
+
+abbrev Inv-loop : tie.InvT-loop
+Inv-loop image board lines stored volts m₀ tangents₀ count j₀ m tangents j = (count ≡ countOn board) × (j ≤ count) × (count ≤ 32)
+
+abbrev μ-loop : tie.MeasureT-loop
+μ-loop image board lines stored volts m₀ tangents₀ count j₀ m tangents j = 32 - j
+
+count-requires : tie.Need-count-requires Inv-loop μ-loop
+count-requires c κs = search needs
+
+loop-holds : tie.Need-loop-holds Inv-loop μ-loop
+loop-holds c = search needs
+
+of-element-requires : tie.Need-of-element-requires Inv-loop μ-loop
+of-element-requires c κs = search needs
+
+end-p-requires : tie.Need-end-p-requires Inv-loop μ-loop
+end-p-requires c κs = search needs
+
+end-q-requires : tie.Need-end-q-requires Inv-loop μ-loop
+end-q-requires c κs = search needs
+
+join-requires : tie.Need-join-requires Inv-loop μ-loop
+join-requires c κs =
+    let s = c .before .before .before .before .before .before .before .before in
+    let l = c .before .before .before .before .before .loop in
+    let there : l .j < countOn (s .args .board .now) = omega (arith, l .inv .0) in (
+      omega (arith, c .before .end-p .ensures, s .pre .1 .p-there (l .j) there, s .pre .1 .few-nodes),
+      omega (arith, c .end-q .ensures, s .pre .1 .q-there (l .j) there, s .pre .1 .few-nodes),
+    )
+
+mul-tangents : tie.Need-mul-tangents Inv-loop μ-loop
+mul-tangents c = search needs
+
+array-set-from-tangents : tie.Need-array-set-from-tangents Inv-loop μ-loop
+array-set-from-tangents c = search needs
+
+add-j : tie.Need-add-j Inv-loop μ-loop
+add-j c = search needs
+
+loop-less : tie.Need-loop-less Inv-loop μ-loop
+loop-less c = search needs
+
+loop-again : tie.Need-loop-again Inv-loop μ-loop
+loop-again c = search needs
+
+returns : tie.Need-returns Inv-loop μ-loop
+returns c = search needs
+
+pub taken-spec : {M : Type 1} → statement M
+taken-spec =
+    tie.close
+    (tie.spec
+    Inv-loop
+    μ-loop
+    count-requires
+    loop-holds
+    of-element-requires
+    end-p-requires
+    end-q-requires
+    join-requires
+    mul-tangents
+    array-set-from-tangents
+    add-j
+    loop-less
+    loop-again
+    returns)

@@ -1,0 +1,166 @@
+// Newton's way to voltages, in f64: the circuit is taken as straight lines where it stands, those
+// are solved, and so on from there.
+use crate::matrix;
+use crate::places;
+use crate::straight;
+use circuit::board;
+use units::voltage::Nearest;
+use units::voltage::Voltage;
+ghost use mathlib.Core.Path.{_≡_};
+ghost use Prim.Native.Nat.{ℕ, _≤_, _<_};
+ghost use Rattle.circuit.specs.Board.{nodesOn, drivenOn, Evaluable};
+ghost use Rattle.guess.specs.Proposal.{Fitting, Standing, Proposed};
+
+// How a guess ended. The first two carry the largest net current that remains at a free node.
+pub enum Ending {
+    Settled(f64),
+    Spent(f64),
+    Broken,
+}
+
+// What came of a round: by how much a voltage changed at most, or that one is none.
+pub enum Round {
+    Moved(f64),
+    Lost,
+}
+
+fn size(x: f64) -> f64 {
+    if x < 0.0 { -x } else { x }
+}
+
+fn larger(a: f64, b: f64) -> f64 {
+    if a < b { b } else { a }
+}
+
+// The voltages as f64.
+fn floats(board: &[u64; 164], volts: &[i64; 16]) -> [f64; 16]
+    requires { ⌜ nodesOn (now board) ≤ 15 ⌝ }
+{
+    let nodes = board::nodes(board);
+    let mut x = [0.0f64; 16];
+    let mut i: usize = 0;
+    while i <= nodes {
+        let v = Voltage {
+            microvolts: volts[i],
+        };
+        x[i] = v.to_f64();
+        i += 1;
+    }
+    x
+}
+
+// The free nodes less what was solved for, rounded: in x, and in `volts` as whole microvolts. The change
+// is taken before the old value is overwritten.
+fn step(board: &[u64; 164], less: [f64; 16], x: &mut [f64; 16], volts: &mut [i64; 16]) -> Round
+    requires { ⌜ (nodesOn (now board) ≤ 15) × (drivenOn (now board) ≤ nodesOn (now board)) × Standing (now board) (now volts) ⌝ }
+    ensures { λ r. ⌜ Standing (now (board .entry)) (now (volts .exit)) ⌝ }
+{
+    let nodes = board::nodes(board);
+    let mut most: f64 = 0.0;
+    let mut i = board::driven(board) + 1;
+    while i <= nodes {
+        match Voltage::from_f64(x[i] - less[i]) {
+            Nearest::At(v) => {
+                let next = v.to_f64();
+                most = larger(most, size(next - x[i]));
+                x[i] = next;
+                let whole = v.microvolts;
+                volts[i] = whole;
+                i += 1;
+            }
+            Nearest::Nothing => {
+                return Round::Lost;
+            }
+        }
+    }
+    Round::Moved(most)
+}
+
+// The largest of the free nodes' net currents.
+fn largest(board: &[u64; 164], nets: [f64; 16]) -> f64
+    requires { ⌜ (nodesOn (now board) ≤ 15) × (drivenOn (now board) ≤ nodesOn (now board)) ⌝ }
+{
+    let nodes = board::nodes(board);
+    let mut most: f64 = 0.0;
+    let mut i = board::driven(board) + 1;
+    while i <= nodes {
+        most = larger(most, size(nets[i]));
+        i += 1;
+    }
+    most
+}
+
+// Rounds until no diode is on another line than the one that was solved with, which makes the solution
+// exact, or no voltage changed, or there were enough of them.
+fn search(
+    image: &[u8],
+    board: &[u64; 164],
+    lines: &[i64; 136],
+    stored: &[i64; 32],
+    volts: &mut [i64; 16],
+) -> Ending
+    requires { ⌜ Evaluable (now image) (now board) (now lines) (now stored) (now volts) × Fitting (now board) × Standing (now board) (now volts) ⌝ }
+    ensures { λ r. ⌜ Standing (now (board .entry)) (now (volts .exit)) ⌝ }
+{
+    let driven = board::driven(board);
+    let nodes = board::nodes(board);
+    let mut x = floats(board, volts);
+    let mut m = straight::leaks(board);
+    let mut tangents = straight::taken(image, board, lines, stored, volts, &mut m);
+    let mut changed = true;
+    let mut difference: f64 = 1.0;
+    let mut rounds: u64 = 0;
+    while changed && 0.5 < difference && rounds < 12 {
+        let solution = matrix::solve(m, straight::nets(board, tangents, &x), driven, nodes);
+        if !solution.found {
+            return Ending::Broken;
+        }
+        let less = solution.x;
+        match step(board, less, &mut x, volts) {
+            Round::Lost => {
+                return Ending::Broken;
+            }
+            Round::Moved(d) => {
+                difference = d;
+            }
+        }
+        let r = straight::retaken(image, board, lines, stored, volts, tangents, &mut m);
+        tangents = r.tangents;
+        changed = r.changed;
+        rounds += 1;
+    }
+    let left = largest(board, straight::nets(board, tangents, &x));
+    if changed && 0.5 < difference {
+        return Ending::Spent(left);
+    }
+    Ending::Settled(left)
+}
+
+// Rounded proposals for the free nodes in `guess`; those of `volts` if the search broke.
+pub fn newton(
+    image: &[u8],
+    board: &[u64; 164],
+    lines: &[i64; 136],
+    stored: &[i64; 32],
+    volts: &[i64; 16],
+    guess: &mut [i64; 16],
+) -> Ending
+    requires { ⌜ Evaluable (now image) (now board) (now lines) (now stored) (now volts) ⌝ }
+    ensures { λ r. ⌜ Proposed (now (board .entry)) (now (guess .entry)) (now (guess .exit)) ⌝ }
+{
+    let mut at = places::copied(volts);
+    match search(image, board, lines, stored, &mut at) {
+        Ending::Settled(left) => {
+            places::put(board, &at, guess);
+            Ending::Settled(left)
+        }
+        Ending::Spent(left) => {
+            places::put(board, &at, guess);
+            Ending::Spent(left)
+        }
+        Ending::Broken => {
+            places::put(board, volts, guess);
+            Ending::Broken
+        }
+    }
+}

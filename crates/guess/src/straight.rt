@@ -1,0 +1,131 @@
+// The circuit as straight lines: the tangents of its elements, the matrix of their slopes, and the net
+// currents by them.
+use crate::matrix;
+use crate::tangent;
+use crate::tangent::Tangent;
+use circuit::board;
+ghost use mathlib.Core.Path.{_≡_};
+ghost use Prim.Native.Nat.{ℕ, _≤_, _<_};
+ghost use Rattle.circuit.specs.Board.{nodesOn, drivenOn, Evaluable};
+ghost use Rattle.guess.specs.Proposal.{Fitting};
+
+// The tangents once more, and whether some diode is on another line than before.
+pub struct Renewed {
+    pub tangents: [Tangent; 32],
+    pub changed: bool,
+}
+
+// The matrix of the leaks alone.
+pub fn leaks(board: &[u64; 164]) -> [[f64; 15]; 15]
+    requires { ⌜ nodesOn (now board) ≤ 15 ⌝ }
+{
+    let leak = std::num::nearest_u64_to_f64(board::leak(board));
+    let nodes = board::nodes(board);
+    let mut m = [[0.0f64; 15]; 15];
+    let mut k: usize = 0;
+    while k < nodes {
+        m[k][k] = leak;
+        k += 1;
+    }
+    m
+}
+
+// The tangents at these voltages, their slopes added to the matrix.
+pub fn taken(
+    image: &[u8],
+    board: &[u64; 164],
+    lines: &[i64; 136],
+    stored: &[i64; 32],
+    volts: &[i64; 16],
+    m: &mut [[f64; 15]; 15],
+) -> [Tangent; 32]
+    requires { ⌜ Evaluable (now image) (now board) (now lines) (now stored) (now volts) × Fitting (now board) ⌝ }
+{
+    let mut tangents = [Tangent {
+        slope: 0.0,
+        at_zero: 0.0,
+    }; 32];
+    let count = board::count(board);
+    let mut j: usize = 0;
+    while j < count {
+        let t = tangent::of_element(image, board, lines, stored, volts, j);
+        matrix::join(m, board::end_p(board, j), board::end_q(board, j), t.slope);
+        tangents[j] = t;
+        j += 1;
+    }
+    tangents
+}
+
+// The diodes' tangents at new voltages. The matrix is whole, so that only the change of a slope is
+// added to it: slopes are whole numbers that an f64 has room for, and nothing is rounded.
+pub fn retaken(
+    image: &[u8],
+    board: &[u64; 164],
+    lines: &[i64; 136],
+    stored: &[i64; 32],
+    volts: &[i64; 16],
+    tangents: [Tangent; 32],
+    m: &mut [[f64; 15]; 15],
+) -> Renewed
+    requires { ⌜ Evaluable (now image) (now board) (now lines) (now stored) (now volts) × Fitting (now board) ⌝ }
+{
+    let mut next = tangents;
+    let mut changed = false;
+    let count = board::count(board);
+    let mut j: usize = 0;
+    while j < count {
+        if board::kind(board, j) == 4 {
+            let t = tangent::of_diode(image, board, lines, stored, volts, j);
+            let old = next[j];
+            if t.slope != old.slope || t.at_zero != old.at_zero {
+                changed = true;
+                matrix::join(
+                    m,
+                    board::end_p(board, j),
+                    board::end_q(board, j),
+                    t.slope - old.slope,
+                );
+                next[j] = t;
+            }
+        }
+        j += 1;
+    }
+    Renewed {
+        tangents: next,
+        changed,
+    }
+}
+
+// What leaves each node by its leak.
+fn leaking(board: &[u64; 164], x: &[f64; 16]) -> [f64; 16]
+    requires { ⌜ nodesOn (now board) ≤ 15 ⌝ }
+{
+    let leak = std::num::nearest_u64_to_f64(board::leak(board));
+    let nodes = board::nodes(board);
+    let mut nets = [0.0f64; 16];
+    let mut i: usize = 1;
+    while i <= nodes {
+        nets[i] = leak * x[i];
+        i += 1;
+    }
+    nets
+}
+
+// The net current of each node, by the tangents.
+pub fn nets(board: &[u64; 164], tangents: [Tangent; 32], x: &[f64; 16]) -> [f64; 16]
+    requires { ⌜ Fitting (now board) ⌝ }
+{
+    let mut nets = leaking(board, x);
+    let count = board::count(board);
+    let mut j: usize = 0;
+    while j < count {
+        let p = board::end_p(board, j);
+        let q = board::end_q(board, j);
+        let t = tangents[j];
+        let current = t.slope * (x[p] - x[q]) + t.at_zero;
+        nets[p] = nets[p] + current;
+        nets[q] = nets[q] - current;
+        j += 1;
+    }
+    nets
+}
