@@ -2,10 +2,10 @@
 // an ending are all that it promises; no answer depends on it, so nothing else is stated or proved of
 // its numbers.
 pub mod matrix;
-pub mod memory;
 pub mod newton;
 pub mod places;
 pub mod proposal;
 pub mod slide;
 pub mod straight;
 pub mod tangent;
+pub mod ties;

@@ -2,8 +2,7 @@
 // driven nodes included: their columns are never read, and a place by node number costs no
 // subtraction. Vectors have a place for each node, ground's first.
 //
-// The matrix is symmetric, with a leak on each diagonal that outweighs the rest of its row: no pivot
-// has to be searched for, and the half above the diagonal is all that elimination needs.
+// Off the diagonal nothing is above zero, and no row's sum is below: no pivot has to be searched for.
 ghost use mathlib.Core.Path.{_≡_};
 ghost use Prim.Native.Nat.{ℕ, _≤_, _<_};
 
@@ -29,26 +28,29 @@ pub fn join(m: &mut [[f64; 15]; 15], p: usize, q: usize, slope: f64)
     }
 }
 
-// Row k, f times, is taken off row i, from the diagonal on.
+// Row k, f times, is taken off row i, past the pivot's column.
 fn take_off(a: &mut [[f64; 15]; 15], i: usize, k: usize, f: f64, end: usize)
     requires { ⌜ (i < 15) × (k < 15) × (end ≤ 15) ⌝ }
 {
-    let mut j = i;
+    let mut j = k + 1;
     while j < end {
         a[i][j] = a[i][j] - f * a[k][j];
         j += 1;
     }
 }
 
-// .. off every row below it.
+// .. off every row below it that has something in that column: most circuits are sparse.
 fn clear_below(a: &mut [[f64; 15]; 15], x: &mut [f64; 16], k: usize, inverse: f64, end: usize)
     requires { ⌜ (k < end) × (end ≤ 15) ⌝ }
 {
     let mut i = k + 1;
     while i < end {
-        let f = a[k][i] * inverse;
-        take_off(a, i, k, f, end);
-        x[i + 1] = x[i + 1] - f * x[k + 1];
+        let below = a[i][k];
+        if below != 0.0 {
+            let f = below * inverse;
+            take_off(a, i, k, f, end);
+            x[i + 1] = x[i + 1] - f * x[k + 1];
+        }
         i += 1;
     }
 }
@@ -97,6 +99,17 @@ fn substitute(a: &[[f64; 15]; 15], x: &mut [f64; 16], first: usize, end: usize)
     }
 }
 
+// In place: x becomes what a times it was, in the rows from `first` up to `end`. False if there is none.
+pub fn solve_in(a: &mut [[f64; 15]; 15], x: &mut [f64; 16], first: usize, end: usize) -> bool
+    requires { ⌜ end ≤ 15 ⌝ }
+{
+    if eliminate(a, x, first, end) {
+        substitute(a, x, first, end);
+        return true;
+    }
+    false
+}
+
 // The x for which m x is b in the rows from `first` up to `end`. The elimination works in a copy: the
 // caller's matrix stays whole, and a round more changes only what its diodes change.
 pub fn solve(m: [[f64; 15]; 15], b: [f64; 16], first: usize, end: usize) -> Solution
@@ -104,9 +117,6 @@ pub fn solve(m: [[f64; 15]; 15], b: [f64; 16], first: usize, end: usize) -> Solu
 {
     let mut a = m;
     let mut x = b;
-    if eliminate(&mut a, &mut x, first, end) {
-        substitute(&a, &mut x, first, end);
-        return Solution { found: true, x };
-    }
-    Solution { found: false, x }
+    let found = solve_in(&mut a, &mut x, first, end);
+    Solution { found, x }
 }

@@ -3,6 +3,7 @@
 use crate::matrix;
 use crate::places;
 use crate::straight;
+use crate::ties;
 use circuit::board;
 use units::voltage::Nearest;
 use units::voltage::Voltage;
@@ -49,9 +50,9 @@ fn floats(board: &[u64; 164], volts: &[i64; 16]) -> [f64; 16]
     x
 }
 
-// The free nodes less what was solved for, rounded: in x, and in `volts` as whole microvolts. The change
+// The free nodes and what was solved for, rounded: in x, and in `volts` as whole microvolts. The change
 // is taken before the old value is overwritten.
-fn step(board: &[u64; 164], less: [f64; 16], x: &mut [f64; 16], volts: &mut [i64; 16]) -> Round
+fn step(board: &[u64; 164], more: [f64; 16], x: &mut [f64; 16], volts: &mut [i64; 16]) -> Round
     requires { ⌜ (nodesOn (now board) ≤ 15) × (drivenOn (now board) ≤ nodesOn (now board)) × Standing (now board) (now volts) ⌝ }
     ensures { λ r. ⌜ Standing (now (board .entry)) (now (volts .exit)) ⌝ }
 {
@@ -59,7 +60,7 @@ fn step(board: &[u64; 164], less: [f64; 16], x: &mut [f64; 16], volts: &mut [i64
     let mut most: f64 = 0.0;
     let mut i = board::driven(board) + 1;
     while i <= nodes {
-        match Voltage::from_f64(x[i] - less[i]) {
+        match Voltage::from_f64(x[i] + more[i]) {
             Nearest::At(v) => {
                 let next = v.to_f64();
                 most = larger(most, size(next - x[i]));
@@ -90,6 +91,39 @@ fn largest(board: &[u64; 164], nets: [f64; 16]) -> f64
     most
 }
 
+// What is left over is solved for once more, and the free nodes are brought to the whole microvolts that
+// the ties find best.
+fn cut(
+    board: &[u64; 164],
+    m: [[f64; 15]; 15],
+    nets: [f64; 16],
+    spent: bool,
+    x: &mut [f64; 16],
+    volts: &mut [i64; 16],
+) -> Ending
+    requires { ⌜ (nodesOn (now board) ≤ 15) × (drivenOn (now board) ≤ nodesOn (now board)) × Standing (now board) (now volts) ⌝ }
+    ensures { λ r. ⌜ Standing (now (board .entry)) (now (volts .exit)) ⌝ }
+{
+    let driven = board::driven(board);
+    let nodes = board::nodes(board);
+    let solution = matrix::solve(m, nets, driven, nodes);
+    if !solution.found {
+        return Ending::Broken;
+    }
+    let left_over = solution.x;
+    let whole = ties::whole(&m, &nets, left_over, driven, nodes);
+    match step(board, whole, x, volts) {
+        Round::Lost => Ending::Broken,
+        Round::Moved(_) => {
+            let left = largest(board, nets);
+            if spent {
+                return Ending::Spent(left);
+            }
+            Ending::Settled(left)
+        }
+    }
+}
+
 // Rounds until no diode is on another line than the one that was solved with, which makes the solution
 // exact, or no voltage changed, or there were enough of them.
 fn search(
@@ -111,12 +145,12 @@ fn search(
     let mut difference: f64 = 1.0;
     let mut rounds: u64 = 0;
     while changed && 0.5 < difference && rounds < 12 {
-        let solution = matrix::solve(m, straight::nets(board, tangents, &x), driven, nodes);
+        let solution = matrix::solve(m, straight::entering(board, tangents, &x), driven, nodes);
         if !solution.found {
             return Ending::Broken;
         }
-        let less = solution.x;
-        match step(board, less, &mut x, volts) {
+        let more = solution.x;
+        match step(board, more, &mut x, volts) {
             Round::Lost => {
                 return Ending::Broken;
             }
@@ -129,11 +163,8 @@ fn search(
         changed = r.changed;
         rounds += 1;
     }
-    let left = largest(board, straight::nets(board, tangents, &x));
-    if changed && 0.5 < difference {
-        return Ending::Spent(left);
-    }
-    Ending::Settled(left)
+    let nets = straight::entering(board, tangents, &x);
+    cut(board, m, nets, changed & (0.5 < difference), &mut x, volts)
 }
 
 // Rounded proposals for the free nodes in `guess`; those of `volts` if the search broke.

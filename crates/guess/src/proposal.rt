@@ -1,5 +1,4 @@
 // A proposal for a sample's voltages, from the last sample's and the drives.
-use crate::memory;
 use crate::newton;
 use crate::newton::Ending;
 use crate::places;
@@ -8,30 +7,24 @@ use circuit::board;
 ghost use Prim.Native.Nat.{ℕ, _≤_, _<_};
 ghost use Rattle.guess.specs.Proposal.{Given, Proposed};
 
-// With one free node integers do it alone, and there is nothing to remember: else Newton, and the
-// distance that the last answer kept from the last guess. `volts` may hold anything; its ground and
+// With one free node integers do it alone; else Newton does. `volts` may hold anything; its ground and
 // driven nodes stay as they are.
 pub fn propose(
     image: &[u8],
     board: &[u64; 164],
     lines: &[i64; 136],
     stored: &[i64; 32],
-    distance: &[i64; 16],
-    guess: &mut [i64; 16],
     volts: &mut [i64; 16],
 ) -> Ending
     requires { ⌜ Given (now image) (now board) (now lines) (now stored) ⌝ }
-    ensures { λ r. ⌜ Proposed (now (board .entry)) (now (guess .entry)) (now (guess .exit)) × Proposed (now (board .entry)) (now (volts .entry)) (now (volts .exit)) ⌝ }
+    ensures { λ r. ⌜ Proposed (now (board .entry)) (now (volts .entry)) (now (volts .exit)) ⌝ }
 {
     let mut at = places::seated(board, volts);
     let nodes = board::nodes(board);
     if nodes <= board::driven(board) + 1 {
         let ending = slide::slide(image, board, lines, stored, nodes, &mut at);
-        places::put(board, &at, guess);
         places::put(board, &at, volts);
         return ending;
     }
-    let ending = newton::newton(image, board, lines, stored, &at, guess);
-    memory::recalled(board, guess, distance, volts);
-    ending
+    newton::newton(image, board, lines, stored, &at, volts)
 }

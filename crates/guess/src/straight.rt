@@ -1,5 +1,5 @@
-// The circuit as straight lines: the tangents of its elements, the matrix of their slopes, and the net
-// currents by them.
+// The circuit as straight lines: the tangents of its elements, the matrix of their slopes, and what
+// enters the nodes by them.
 use crate::matrix;
 use crate::tangent;
 use crate::tangent::Tangent;
@@ -96,7 +96,7 @@ pub fn retaken(
     }
 }
 
-// What leaves each node by its leak.
+// What enters each node by its leak.
 fn leaking(board: &[u64; 164], x: &[f64; 16]) -> [f64; 16]
     requires { ⌜ nodesOn (now board) ≤ 15 ⌝ }
 {
@@ -105,14 +105,14 @@ fn leaking(board: &[u64; 164], x: &[f64; 16]) -> [f64; 16]
     let mut nets = [0.0f64; 16];
     let mut i: usize = 1;
     while i <= nodes {
-        nets[i] = leak * x[i];
+        nets[i] = -(leak * x[i]);
         i += 1;
     }
     nets
 }
 
-// The net current of each node, by the tangents.
-pub fn nets(board: &[u64; 164], tangents: [Tangent; 32], x: &[f64; 16]) -> [f64; 16]
+// What enters each node, by the tangents: its net current the other way round.
+pub fn entering(board: &[u64; 164], tangents: [Tangent; 32], x: &[f64; 16]) -> [f64; 16]
     requires { ⌜ Fitting (now board) ⌝ }
 {
     let mut nets = leaking(board, x);
@@ -123,8 +123,8 @@ pub fn nets(board: &[u64; 164], tangents: [Tangent; 32], x: &[f64; 16]) -> [f64;
         let q = board::end_q(board, j);
         let t = tangents[j];
         let current = t.slope * (x[p] - x[q]) + t.at_zero;
-        nets[p] = nets[p] + current;
-        nets[q] = nets[q] - current;
+        nets[p] = nets[p] - current;
+        nets[q] = nets[q] + current;
         j += 1;
     }
     nets

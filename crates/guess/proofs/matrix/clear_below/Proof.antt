@@ -1,14 +1,14 @@
-use Prim.Native.Nat.{ℕ, _+_, _-_, _≤_, _<_}
-use native.Mathlib.Omega.{arith}
+use Prim.Native.Nat.{ℕ, suc, _≤_, _<_, _-_}
 use borrow.Author.Needs.{needs}
 use Rattle.guess.proofs.matrix.clear_below.Statement.{statement}
 use Rattle.guess.proofs.matrix.clear_below.Tie as tie
+use Rattle.guess.proofs.matrix.take_off.Reads as take-off-reads
 
 abbrev Inv-loop : tie.InvT-loop
-Inv-loop a₀ x₀ k inverse end i₀ a x i = i ≤ 15
+Inv-loop a₀ x₀ k inverse end i₀ a x i = 0 ≤ i
 
 abbrev μ-loop : tie.MeasureT-loop
-μ-loop a₀ x₀ k inverse end i₀ a x i = 15 - i
+μ-loop a₀ x₀ k inverse end i₀ a x i = end - i
 
 add-i : tie.Need-add-i Inv-loop μ-loop
 add-i c = search needs
@@ -16,17 +16,17 @@ add-i c = search needs
 loop-holds : tie.Need-loop-holds Inv-loop μ-loop
 loop-holds c = search needs
 
-mul-f : tie.Need-mul-f Inv-loop μ-loop
-mul-f c = search needs
+mul-below : tie.Need-mul-below Inv-loop μ-loop
+mul-below c = search needs
 
-mul-f-2 : tie.Need-mul-f-2 Inv-loop μ-loop
-mul-f-2 c = search needs
+mul-below-2 : tie.Need-mul-below-2 Inv-loop μ-loop
+mul-below-2 c = search needs
 
-index-1-f : tie.Need-index-1-f Inv-loop μ-loop
-index-1-f c = search needs
+index-1-below : tie.Need-index-1-below Inv-loop μ-loop
+index-1-below c = search needs
 
-index-2-f : tie.Need-index-2-f Inv-loop μ-loop
-index-2-f c = search needs
+index-2-below : tie.Need-index-2-below Inv-loop μ-loop
+index-2-below c = search needs
 
 take-off-requires : tie.Need-take-off-requires Inv-loop μ-loop
 take-off-requires c κs = search needs
@@ -78,10 +78,10 @@ clear-below-spec =
     μ-loop
     add-i
     loop-holds
-    mul-f
-    mul-f-2
-    index-1-f
-    index-2-f
+    mul-below
+    mul-below-2
+    index-1-below
+    index-2-below
     take-off-requires
     add-x
     mul-x

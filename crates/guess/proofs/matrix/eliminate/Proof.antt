@@ -1,14 +1,14 @@
-use Prim.Native.Nat.{ℕ, _+_, _-_, _≤_, _<_}
-use native.Mathlib.Omega.{arith}
+use Prim.Native.Nat.{ℕ, suc, _≤_, _<_, _-_}
 use borrow.Author.Needs.{needs}
 use Rattle.guess.proofs.matrix.eliminate.Statement.{statement}
 use Rattle.guess.proofs.matrix.eliminate.Tie as tie
+use Rattle.guess.proofs.matrix.clear_below.Reads as clear-below-reads
 
 abbrev Inv-loop : tie.InvT-loop
-Inv-loop a₀ x₀ first end k₀ a x k = k ≤ 15 + first
+Inv-loop a₀ x₀ first end k₀ a x k = 0 ≤ k
 
 abbrev μ-loop : tie.MeasureT-loop
-μ-loop a₀ x₀ first end k₀ a x k = 15 - k
+μ-loop a₀ x₀ first end k₀ a x k = end - k
 
 loop-holds : tie.Need-loop-holds Inv-loop μ-loop
 loop-holds c = search needs

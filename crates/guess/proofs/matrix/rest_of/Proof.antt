@@ -1,14 +1,13 @@
-use Prim.Native.Nat.{ℕ, _+_, _-_, _≤_, _<_}
-use native.Mathlib.Omega.{arith}
+use Prim.Native.Nat.{ℕ, suc, _≤_, _<_, _-_}
 use borrow.Author.Needs.{needs}
 use Rattle.guess.proofs.matrix.rest_of.Statement.{statement}
 use Rattle.guess.proofs.matrix.rest_of.Tie as tie
 
 abbrev Inv-loop : tie.InvT-loop
-Inv-loop a x k end rest₀ j₀ rest j = j ≤ 15 + 1
+Inv-loop a x k end rest₀ j₀ rest j = 0 ≤ j
 
 abbrev μ-loop : tie.MeasureT-loop
-μ-loop a x k end rest₀ j₀ rest j = 15 + 1 - j
+μ-loop a x k end rest₀ j₀ rest j = end - j
 
 add-rest : tie.Need-add-rest Inv-loop μ-loop
 add-rest c = search needs

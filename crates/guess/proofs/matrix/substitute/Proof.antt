@@ -1,11 +1,11 @@
-use Prim.Native.Nat.{ℕ, _+_, _-_, _≤_, _<_}
-use native.Mathlib.Omega.{arith}
+use Prim.Native.Nat.{ℕ, suc, _≤_, _<_, _-_}
 use borrow.Author.Needs.{needs}
 use Rattle.guess.proofs.matrix.substitute.Statement.{statement}
 use Rattle.guess.proofs.matrix.substitute.Tie as tie
+use Rattle.guess.proofs.matrix.rest_of.Reads as rest-of-reads
 
 abbrev Inv-loop : tie.InvT-loop
-Inv-loop a x₀ first end k₀ x k = k ≤ 15
+Inv-loop a x₀ first end k₀ x k = k ≤ end
 
 abbrev μ-loop : tie.MeasureT-loop
 μ-loop a x₀ first end k₀ x k = k

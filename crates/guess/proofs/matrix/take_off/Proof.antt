@@ -1,14 +1,16 @@
-use Prim.Native.Nat.{ℕ, _+_, _-_, _≤_, _<_}
-use native.Mathlib.Omega.{arith}
+use Prim.Native.Nat.{ℕ, suc, _≤_, _<_, _-_}
 use borrow.Author.Needs.{needs}
 use Rattle.guess.proofs.matrix.take_off.Statement.{statement}
 use Rattle.guess.proofs.matrix.take_off.Tie as tie
 
 abbrev Inv-loop : tie.InvT-loop
-Inv-loop a₀ i k f end j₀ a j = j ≤ 15
+Inv-loop a₀ i k f end j₀ a j = 0 ≤ j
 
 abbrev μ-loop : tie.MeasureT-loop
-μ-loop a₀ i k f end j₀ a j = 15 - j
+μ-loop a₀ i k f end j₀ a j = end - j
+
+add-j : tie.Need-add-j Inv-loop μ-loop
+add-j c = search needs
 
 loop-holds : tie.Need-loop-holds Inv-loop μ-loop
 loop-holds c = search needs
@@ -49,8 +51,8 @@ index-1-a-3 c = search needs
 index-2-a-3 : tie.Need-index-2-a-3 Inv-loop μ-loop
 index-2-a-3 c = search needs
 
-add-j : tie.Need-add-j Inv-loop μ-loop
-add-j c = search needs
+add-j-2 : tie.Need-add-j-2 Inv-loop μ-loop
+add-j-2 c = search needs
 
 loop-less : tie.Need-loop-less Inv-loop μ-loop
 loop-less c = search needs
@@ -67,6 +69,7 @@ take-off-spec =
     (tie.spec
     Inv-loop
     μ-loop
+    add-j
     loop-holds
     mul-a
     mul-a-2
@@ -80,7 +83,7 @@ take-off-spec =
     mul-a-6
     index-1-a-3
     index-2-a-3
-    add-j
+    add-j-2
     loop-less
     loop-again
     returns)

@@ -37,8 +37,8 @@ taken-requires c κs = (c .before .before .before .before .before .before .befor
 loop-holds : tie.Need-loop-holds Inv-loop μ-loop
 loop-holds c = let s = c .before .before .before .before .before .before .before .before .before in (omega (arith, c .before .before .before .before .before .before .nodes .ensures, s .pre .1 .few-nodes), omega arith, s .pre .2)
 
-nets-requires : tie.Need-nets-requires Inv-loop μ-loop
-nets-requires c κs = c .before .before .before .before .before .before .before .before .before .before .before .before .before .before .pre .1
+entering-requires : tie.Need-entering-requires Inv-loop μ-loop
+entering-requires c κs = c .before .before .before .before .before .before .before .before .before .before .before .before .before .before .pre .1
 
 solve-requires : tie.Need-solve-requires Inv-loop μ-loop
 solve-requires c κs = c .before .before .before .before .before .loop .inv .0
@@ -70,17 +70,14 @@ loop-less c = omega (arith, few (c .before .before .before .before .before .befo
 loop-again : tie.Need-loop-again Inv-loop μ-loop
 loop-again c = (c .before .before .before .before .before .before .before .before .before .before .before .before .before .before .before .before .before .before .before .loop .inv .0, omega (arith, few (c .before .before .before .before .before .before .before .before .before .before .before .before .before .before .before .before)), c .before .before .before .before .before .before .before .step .ensures)
 
-nets-requires-2 : tie.Need-nets-requires-2 Inv-loop μ-loop
-nets-requires-2 c κs = c .before .before .before .before .before .before .before .before .before .before .before .before .pre .1
+entering-requires-2 : tie.Need-entering-requires-2 Inv-loop μ-loop
+entering-requires-2 c κs = c .before .before .before .before .before .before .before .before .before .before .before .before .pre .1
 
-largest-requires : tie.Need-largest-requires Inv-loop μ-loop
-largest-requires c κs = let s = c .before .before .before .before .before .before .before .before .before .before .before .before .before in (s .pre .1 .few-nodes, s .pre .1 .few-driven)
+cut-requires : tie.Need-cut-requires Inv-loop μ-loop
+cut-requires c κs = (c .before .before .before .before .before .before .before .before .before .before .before .before .before .before .before .pre .1 .few-nodes, c .before .before .before .before .before .before .before .before .before .before .before .before .before .before .before .pre .1 .few-driven, c .before .before .before .before .before .loop .inv .2)
 
 returns-3 : tie.Need-returns-3 Inv-loop μ-loop
-returns-3 c = c .before .before .before .before .before .before .loop .inv .2
-
-returns-4 : tie.Need-returns-4 Inv-loop μ-loop
-returns-4 c = c .before .before .before .before .before .loop .inv .2
+returns-3 c = search needs
 
 pub search-spec : {M : Type 1} → statement M
 search-spec =
@@ -94,7 +91,7 @@ search-spec =
     leaks-requires
     taken-requires
     loop-holds
-    nets-requires
+    entering-requires
     solve-requires
     returns
     step-requires
@@ -105,7 +102,6 @@ search-spec =
     add-rounds
     loop-less
     loop-again
-    nets-requires-2
-    largest-requires
-    returns-3
-    returns-4)
+    entering-requires-2
+    cut-requires
+    returns-3)

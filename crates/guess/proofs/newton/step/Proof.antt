@@ -12,10 +12,10 @@ use Rattle.guess.proofs.newton.step.Statement.{statement}
 use Rattle.guess.proofs.newton.step.Tie as tie
 
 abbrev Inv-loop : tie.InvT-loop
-Inv-loop board x₀ volts₀ less nodes most₀ i₀ x volts most i = (drivenOn board < i) × (nodes ≤ 15) × (i ≤ 16) × Standing board volts
+Inv-loop board x₀ volts₀ more nodes most₀ i₀ x volts most i = (drivenOn board < i) × (nodes ≤ 15) × (i ≤ 16) × Standing board volts
 
 abbrev μ-loop : tie.MeasureT-loop
-μ-loop board x₀ volts₀ less nodes most₀ i₀ x volts most i = 16 - i
+μ-loop board x₀ volts₀ more nodes most₀ i₀ x volts most i = 16 - i
 
 nodes-requires : tie.Need-nodes-requires Inv-loop μ-loop
 nodes-requires c κs = search needs

@@ -3,8 +3,8 @@ use Rattle.circuit.specs.Board.{countOn}
 use Prim.Native.Nat.{ℕ, _+_, _-_, _≤_, _<_}
 use native.Mathlib.Omega.{arith}
 use borrow.Author.Needs.{needs}
-use Rattle.guess.proofs.straight.nets.Statement.{statement}
-use Rattle.guess.proofs.straight.nets.Tie as tie
+use Rattle.guess.proofs.straight.entering.Statement.{statement}
+use Rattle.guess.proofs.straight.entering.Tie as tie
 
 abbrev Inv-loop : tie.InvT-loop
 Inv-loop board x tangents nets₀ count j₀ nets j = (count ≡ countOn board) × (j ≤ count) × (count ≤ 32)
@@ -91,8 +91,8 @@ loop-again c = search needs
 returns : tie.Need-returns Inv-loop μ-loop
 returns c = search needs
 
-pub nets-spec : {M : Type 1} → statement M
-nets-spec =
+pub entering-spec : {M : Type 1} → statement M
+entering-spec =
     tie.close
     (tie.spec
     Inv-loop

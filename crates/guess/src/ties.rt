@@ -1,0 +1,456 @@
+// Ties: how voltages that solve the straight lines exactly become whole microvolts.
+//
+// A stiff link carries current in steps of its conductance, so where it joins two free nodes the
+// nearest whole voltages can be far from the answer: the current that a cut to whole microvolts leaves
+// over has to go through the weak conductances of its lighter side. So the stiffest link is taken
+// first, and the difference across it is tied to the whole number below or above. With the number
+// below, the side that the link leads away from has current to spare; with the one above, the other
+// side has. The spared node's row gives way to the tie, the rest is solved again, and the higher of
+// the two goes on to the next link. A way not taken is tried where it may have led higher.
+//
+// Voltages here are what is added to whole microvolts, so a tie's difference is a whole number too.
+use crate::matrix;
+ghost use mathlib.Core.Path.{_≡_};
+ghost use Prim.Native.Nat.{ℕ, _≤_, _<_};
+
+// Which node a node is tied to, 0 for none, and by what difference; and where all nodes stand then.
+pub struct Ties {
+    pub to: [usize; 16],
+    pub by: [f64; 16],
+    pub at: [f64; 16],
+}
+
+// The ties so far, and of the ways not taken the highest: its ties and how high it stands.
+pub struct Ways {
+    pub taken: Ties,
+    pub other: Ties,
+    pub height: f64,
+}
+
+// Two nodes that a link joins, and how stiff it is: p is 0 for none.
+pub struct Link {
+    pub p: usize,
+    pub q: usize,
+    pub stiffness: f64,
+}
+
+// A link less stiff than this is left to the integers.
+const LEAST_STIFFNESS: f64 = 4.0;
+
+// From 2^52 to 2^53 an f64 has room for whole numbers alone; this stands in the middle.
+const WHOLE: f64 = 6755399441055744.0;
+
+// A voltage that misses a whole number by less than this is taken for it: elimination rounds.
+const ROUNDED: f64 = 0.000001;
+
+// Lower than anything stands.
+const LOWEST: f64 = -9007199254740992.0;
+
+// The nearest whole number, of anything below 2^51.
+fn nearest(x: f64) -> f64 {
+    (x + WHOLE) - WHOLE
+}
+
+// The whole number at or below x.
+fn floor(x: f64) -> f64 {
+    let y = x + ROUNDED;
+    let whole = nearest(y);
+    if y < whole {
+        return whole - 1.0;
+    }
+    whole
+}
+
+// A place of 16, whatever the number.
+fn place(i: usize) -> usize
+    ensures { λ r. ⌜ r ≤ 15 ⌝ }
+{
+    if i < 16 { i } else { 0 }
+}
+
+// The node that stands for itself, at the end of the ties that begin at node i.
+fn root(to: &[usize; 16], i: usize) -> usize
+    requires { ⌜ i ≤ 15 ⌝ }
+    ensures { λ r. ⌜ r ≤ 15 ⌝ }
+{
+    let mut r = i;
+    let mut k: usize = 0;
+    while k < 16 {
+        let next = place(to[r]);
+        if next == 0 {
+            return r;
+        }
+        r = next;
+        k += 1;
+    }
+    r
+}
+
+// Every node's.
+fn roots(to: &[usize; 16], end: usize) -> [usize; 16]
+    requires { ⌜ end ≤ 15 ⌝ }
+{
+    let mut r = [0usize; 16];
+    let mut i: usize = 1;
+    while i <= end {
+        r[i] = root(to, i);
+        i += 1;
+    }
+    r
+}
+
+// The rows of tied nodes give way to their ties.
+fn tie_rows(
+    a: &mut [[f64; 15]; 15],
+    x: &mut [f64; 16],
+    to: &[usize; 16],
+    by: &[f64; 16],
+    first: usize,
+    end: usize,
+)
+    requires { ⌜ end ≤ 15 ⌝ }
+{
+    let empty = [0.0f64; 15];
+    let mut k = first;
+    while k < end {
+        let other = place(to[k + 1]);
+        if 0 < other {
+            a[k] = empty;
+            a[k][k] = 1.0;
+            a[k][other - 1] = -1.0;
+            x[k + 1] = by[k + 1];
+        }
+        k += 1;
+    }
+}
+
+// The net current of node k + 1 by the straight lines.
+fn net(
+    m: &[[f64; 15]; 15],
+    b: &[f64; 16],
+    at: &[f64; 16],
+    k: usize,
+    first: usize,
+    end: usize,
+) -> f64
+    requires { ⌜ (k < 15) × (end ≤ 15) ⌝ }
+{
+    let mut sum = -b[k + 1];
+    let mut j = first;
+    while j < end {
+        sum = sum + m[k][j] * at[j + 1];
+        j += 1;
+    }
+    sum
+}
+
+// A tied node that has no current to spare after all, 0 for none.
+fn strained(
+    m: &[[f64; 15]; 15],
+    b: &[f64; 16],
+    to: &[usize; 16],
+    at: &[f64; 16],
+    first: usize,
+    end: usize,
+) -> usize
+    requires { ⌜ end ≤ 15 ⌝ }
+    ensures { λ r. ⌜ r ≤ 15 ⌝ }
+{
+    let mut k = first;
+    while k < end {
+        if 0 < to[k + 1] {
+            if m[k][k] * ROUNDED < net(m, b, at, k, first, end) {
+                return k + 1;
+            }
+        }
+        k += 1;
+    }
+    0
+}
+
+// Solved with these ties. A strained node takes its row back, and the node at the end of its ties is
+// tied to it instead.
+fn solved(m: &[[f64; 15]; 15], b: &[f64; 16], ties: Ties, first: usize, end: usize) -> Ties
+    requires { ⌜ end ≤ 15 ⌝ }
+{
+    let mut to = ties.to;
+    let mut by = ties.by;
+    let mut at = ties.at;
+    let mut turn: usize = 0;
+    while turn < 4 {
+        let mut a = *m;
+        let mut x = *b;
+        tie_rows(&mut a, &mut x, &to, &by, first, end);
+        if !matrix::solve_in(&mut a, &mut x, first, end) {
+            return Ties { to, by, at };
+        }
+        at = x;
+        let i = strained(m, b, &to, &at, first, end);
+        if i == 0 {
+            return Ties { to, by, at };
+        }
+        let r = root(&to, i);
+        to[i] = 0;
+        to[r] = i;
+        by[r] = nearest(at[r] - at[i]);
+        turn += 1;
+    }
+    Ties { to, by, at }
+}
+
+// How much conductance leads out of each set of tied nodes, by its root.
+fn weights(m: &[[f64; 15]; 15], roots: &[usize; 16], first: usize, end: usize) -> [f64; 16]
+    requires { ⌜ end ≤ 15 ⌝ }
+{
+    let mut w = [0.0f64; 16];
+    let mut k = first;
+    while k < end {
+        let r = place(roots[k + 1]);
+        let mut j = first;
+        while j < end {
+            if roots[j + 1] == roots[k + 1] {
+                w[r] = w[r] + m[k][j];
+            }
+            j += 1;
+        }
+        k += 1;
+    }
+    w
+}
+
+// How stiff a link of conductance g between these weights is: how far its lighter side has to move to
+// take up what one microvolt across the link carries.
+fn stiffness(g: f64, one: f64, other: f64) -> f64 {
+    let light = if one < other { one - g } else { other - g };
+    if light < 1.0 {
+        return g;
+    }
+    g / light
+}
+
+// The stiffest link of node k + 1 to one after it, if it is stiffer than the one that is known.
+fn stiffer(
+    m: &[[f64; 15]; 15],
+    roots: &[usize; 16],
+    w: &[f64; 16],
+    k: usize,
+    end: usize,
+    known: Link,
+) -> Link
+    requires { ⌜ (k < 15) × (end ≤ 15) ⌝ }
+{
+    let mut best = known;
+    let r = place(roots[k + 1]);
+    let mut j = k + 1;
+    while j < end {
+        let s = place(roots[j + 1]);
+        if m[k][j] < 0.0 {
+            if r != s {
+                let stiff = stiffness(-m[k][j], w[r], w[s]);
+                if best.stiffness < stiff {
+                    best = Link {
+                        p: k + 1,
+                        q: j + 1,
+                        stiffness: stiff,
+                    };
+                }
+            }
+        }
+        j += 1;
+    }
+    best
+}
+
+// The stiffest link that is not within a set of tied nodes.
+fn stiffest(m: &[[f64; 15]; 15], roots: &[usize; 16], first: usize, end: usize) -> Link
+    requires { ⌜ end ≤ 15 ⌝ }
+{
+    let w = weights(m, roots, first, end);
+    let mut best = Link {
+        p: 0,
+        q: 0,
+        stiffness: LEAST_STIFFNESS,
+    };
+    let mut k = first;
+    while k < end {
+        best = stiffer(m, roots, &w, k, end, best);
+        k += 1;
+    }
+    best
+}
+
+// How high all nodes stand together.
+fn height(at: &[f64; 16], end: usize) -> f64
+    requires { ⌜ end ≤ 15 ⌝ }
+{
+    let mut sum: f64 = 0.0;
+    let mut i: usize = 1;
+    while i <= end {
+        sum = sum + at[i];
+        i += 1;
+    }
+    sum
+}
+
+// The ties with one more: node r is tied to node s, by d.
+fn tied(ties: Ties, r: usize, s: usize, d: f64) -> Ties
+    requires { ⌜ r ≤ 15 ⌝ }
+{
+    let mut more = ties;
+    more.to[r] = s;
+    more.by[r] = d;
+    more
+}
+
+// One of two ways is taken. The other is put aside, if none that was stands higher.
+fn taken(ways: Ways, way: Ties, other: Ties, high: f64) -> Ways {
+    if ways.height < high {
+        return Ways {
+            taken: way,
+            other,
+            height: high,
+        };
+    }
+    let aside = ways.other;
+    Ways {
+        taken: way,
+        other: aside,
+        height: ways.height,
+    }
+}
+
+// The higher of two ways is.
+fn higher(ways: Ways, one: Ties, two: Ties, end: usize) -> Ways
+    requires { ⌜ end ≤ 15 ⌝ }
+{
+    let one_at = one.at;
+    let two_at = two.at;
+    let one_high = height(&one_at, end);
+    let two_high = height(&two_at, end);
+    if one_high < two_high {
+        return taken(ways, two, one, one_high);
+    }
+    taken(ways, one, two, two_high)
+}
+
+// By what the roots r and s differ if the difference of p and q, which are tied to them, is cut downward.
+fn cut_across(at: &[f64; 16], p: usize, q: usize, r: usize, s: usize) -> f64
+    requires { ⌜ (p ≤ 15) × (q ≤ 15) × (r ≤ 15) × (s ≤ 15) ⌝ }
+{
+    nearest(at[r] - at[p]) + floor(at[p] - at[q]) + nearest(at[q] - at[s])
+}
+
+// Two roots are tied by d, which spares the first, or by one more, which spares the second.
+fn either(
+    m: &[[f64; 15]; 15],
+    b: &[f64; 16],
+    ways: Ways,
+    r: usize,
+    s: usize,
+    d: f64,
+    first: usize,
+    end: usize,
+) -> Ways
+    requires { ⌜ (r ≤ 15) × (s ≤ 15) × (end ≤ 15) ⌝ }
+{
+    let ties = ways.taken;
+    let one = solved(m, b, tied(ties, r, s, d), first, end);
+    let two = solved(m, b, tied(ties, s, r, -(d + 1.0)), first, end);
+    higher(ways, one, two, end)
+}
+
+// A link is tied, by the whole number below its difference or by the one above. The roots of its ends are
+// tied in their stead.
+fn tie(
+    m: &[[f64; 15]; 15],
+    b: &[f64; 16],
+    roots: &[usize; 16],
+    ways: Ways,
+    link: Link,
+    first: usize,
+    end: usize,
+) -> Ways
+    requires { ⌜ end ≤ 15 ⌝ }
+{
+    let ties = ways.taken;
+    let at = ties.at;
+    let p = place(link.p);
+    let q = place(link.q);
+    let r = place(roots[p]);
+    let s = place(roots[q]);
+    let d = cut_across(&at, p, q, r, s);
+    either(m, b, ways, r, s, d, first, end)
+}
+
+// Link after link, as long as one is stiff enough.
+fn grown(m: &[[f64; 15]; 15], b: &[f64; 16], start: Ties, first: usize, end: usize) -> Ways
+    requires { ⌜ end ≤ 15 ⌝ }
+{
+    let mut ways = Ways {
+        taken: start,
+        other: start,
+        height: LOWEST,
+    };
+    let mut turn: usize = 0;
+    while turn < 15 {
+        let ties = ways.taken;
+        let to = ties.to;
+        let r = roots(&to, end);
+        let link = stiffest(m, &r, first, end);
+        if link.p == 0 {
+            return ways;
+        }
+        ways = tie(m, b, &r, ways, link, first, end);
+        turn += 1;
+    }
+    ways
+}
+
+// Once more from the way that was put aside, if it may have led higher.
+fn best(m: &[[f64; 15]; 15], b: &[f64; 16], start: Ties, first: usize, end: usize) -> Ties
+    requires { ⌜ end ≤ 15 ⌝ }
+{
+    let ways = grown(m, b, start, first, end);
+    let ties = ways.taken;
+    let at = ties.at;
+    let high = height(&at, end);
+    if ways.height < high + 0.5 {
+        return ties;
+    }
+    let again = grown(m, b, ways.other, first, end);
+    let second = again.taken;
+    let second_at = second.at;
+    if high < height(&second_at, end) {
+        return second;
+    }
+    ties
+}
+
+// Where the nodes of x, for which m x is b, best stand as whole numbers: one that stands for itself is cut
+// downward, and the others follow by their ties.
+pub fn whole(
+    m: &[[f64; 15]; 15],
+    b: &[f64; 16],
+    x: [f64; 16],
+    first: usize,
+    end: usize,
+) -> [f64; 16]
+    requires { ⌜ end ≤ 15 ⌝ }
+{
+    let none = Ties {
+        to: [0usize; 16],
+        by: [0.0f64; 16],
+        at: x,
+    };
+    let ties = best(m, b, none, first, end);
+    let to = ties.to;
+    let at = ties.at;
+    let mut cut = [0.0f64; 16];
+    let mut i: usize = 1;
+    while i <= end {
+        let r = root(&to, i);
+        cut[i] = floor(at[r]) + nearest(at[i] - at[r]);
+        i += 1;
+    }
+    cut
+}
