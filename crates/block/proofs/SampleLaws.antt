@@ -22,7 +22,7 @@ use Rattle.solve.specs.declared.sample.Outcome as solution
 use Rattle.solve.specs.declared.sample.Outcome.the-variants as outcome
 use Rattle.solve.proofs.SampleLaws.{steep-of}
 use Rattle.block.specs.Block.{driveAt, Run, start, sample}
-use Rattle.block.specs.Drives.{Placed}
+use Rattle.block.specs.Drives.{Begun}
 use Rattle.block.specs.Playing.{Playing, Driven, Room, Sampled, passed, refused, Ran, short}
 
 -- ---- a sample of the code
@@ -31,10 +31,10 @@ use Rattle.block.specs.Playing.{Playing, Driven, Room, Sampled, passed, 
 pub given : (image board : List ℕ) (lines x : List ℤ) (steep : List ℕ) → Playing image board lines x steep → Given image board lines steep x
 given image board lines x steep p = record { ready = p .ready; steepest-sums = steep-of image board lines steep (p .ready) (p .steepest-sums); kept = p .kept; long = p .long }
 
--- what comes of it, with the drives that were placed
-module _ (image board drives : List ℕ) (j : ℕ) (before volts x v y : List ℤ) (p : Placed drives (drivenOn board) j (drivenOn board) before volts) where
+-- what comes of it, with the drives that stand at the driven nodes
+module _ (image board drives : List ℕ) (j : ℕ) (volts x v y : List ℤ) (begun : Begun board drives j volts) where
   moved : (r : Outcome) → Gives (networkOn image board) (reading x) (drivesAt volts) r → Gives (networkOn image board) (reading x) (driveAt drives (drivenOn board) j) r
-  moved r g = gives-alike (networkOn image board) (reading x) (reading x) (drivesAt volts) (driveAt drives (drivenOn board) j) (λ i h. refl) (p .at) r g
+  moved r g = gives-alike (networkOn image board) (reading x) (reading x) (drivesAt volts) (driveAt drives (drivenOn board) j) (λ i h. refl) begun r g
 
   pub sampled-is : (r : solution.Outcome) → solve.Sampled image board volts x v y r → Sampled (networkOn image board) (driveAt drives (drivenOn board) j) x y v (numberOf (outcomeOf r v y))
   sampled-is outcome.Accepted s = passed (moved (accepted (reading v) (reading y)) (s .gives)) (s .carried .0) (s .carried .1)

@@ -1,15 +1,37 @@
 // The samples of a block, one after the other, up to the first that is refused.
 use crate::drives;
 use circuit::board;
+use guess::proposal;
 use solve::sample;
 use solve::settle;
 use units::bytes;
 ghost use Rattle.circuit.specs.Board.{drivenOn, networkOn};
 ghost use Rattle.block.specs.Block.{driveAt};
+ghost use Rattle.guess.specs.Proposal as Guess;
+ghost use Rattle.block.specs.Drives.{Begun};
 ghost use Rattle.block.specs.Playing.{Playing, Driven, Room, Sampled, Ran};
 
-// Sample j: its drives at the driven nodes, then its voltages and the stored currents after it.
-// Document 01's number.
+// Where sample j begins: its drives at the driven nodes, and at the free nodes a guess, which may be
+// anything.
+fn begin(
+    image: &[u8],
+    board: &[u64; 164],
+    lines: &[i64; 136],
+    drives: &[u8],
+    j: usize,
+    x: &[i64; 32],
+    volts: &mut [i64; 16],
+)
+    requires { ⌜ Guess.Given (now image) (now board) (now lines) (now x) × Driven (now board) (now drives) j ⌝ }
+    ensures { λ _. ⌜ Begun (now (board .entry)) (now (drives .entry)) j (now (volts .exit)) ⌝ }
+{
+    let mut placed = settle::copied(volts);
+    drives::place(drives, board::driven(board), j, &mut placed);
+    proposal::propose(image, board, lines, x, &mut placed);
+    *volts = placed;
+}
+
+// Sample j: its voltages and the stored currents after it. Document 01's number.
 fn next(
     image: &[u8],
     board: &[u64; 164],
@@ -23,9 +45,7 @@ fn next(
     requires { ⌜ Playing (now image) (now board) (now lines) (now x) (now steep) × Driven (now board) (now drives) j ⌝ }
     ensures { λ r. ⌜ Sampled (networkOn (now (image .entry)) (now (board .entry))) (driveAt (now (drives .entry)) (drivenOn (now (board .entry))) j) (now (x .entry)) (now (x .exit)) (now (volts .exit)) r ⌝ }
 {
-    let mut placed = settle::copied(volts);
-    drives::place(drives, board::driven(board), j, &mut placed);
-    *volts = placed;
+    begin(image, board, lines, drives, j, x, volts);
     match sample::sample(image, board, lines, steep, volts, x) {
         sample::Outcome::Accepted => 0,
         sample::Outcome::DriveRefused => 9,
