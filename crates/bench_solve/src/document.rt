@@ -57,6 +57,17 @@ fn two_capacitors(x: i64, d: i64) {
     );
 }
 
+// A capacitor with x stored on a free node, which ten resistors of 1 ohm hold near the drive.
+fn held(x: i64, d: i64) {
+    play::case(
+        b"held",
+        b"\x02\x02\x00\x00\x10\x27\x00\x00\x01\x01\x02\x00\x01\x00\x00\x00\x01\x01\x02\x00\x01\x00\x00\x00\x01\x01\x02\x00\x01\x00\x00\x00\x01\x01\x02\x00\x01\x00\x00\x00\x01\x01\x02\x00\x01\x00\x00\x00\x01\x01\x02\x00\x01\x00\x00\x00\x01\x01\x02\x00\x01\x00\x00\x00\x01\x01\x02\x00\x01\x00\x00\x00\x01\x01\x02\x00\x01\x00\x00\x00\x01\x01\x02\x00\x01\x00\x00\x00\x58\x00\x00\x00\x0b\x00\x02\x01\x80\xbb\x00\x00\x02\x01\x10\x00",
+        0,
+        x,
+        d,
+    );
+}
+
 // An inductor on the drive, which takes the other sign.
 fn inductor(x: i64, d: i64) {
     play::case(
@@ -91,6 +102,10 @@ pub fn cases() {
     two_capacitors(-144115188075855872, 1);
     two_capacitors(144115188075855872, 0);
     two_capacitors(144115188075855872, -1);
+    held(-144115188075855872, -1000000);
+    held(-144115188075855872, 16777216);
+    held(144115188075855872, 1000000);
+    held(144115188075855872, -16777216);
     inductor(144115188075855872, 1);
     inductor(144115188075855872, -1);
     inductor(-144115188075855872, -1);
