@@ -21,8 +21,8 @@ def counted(words):
                for word in line]
 
 
-def read(path):
-    """The cases of one file, in order. Lines before the first case belong to every case of the file."""
+def read(path, known={}):
+    """The cases of one file, in order. Lines before the first case belong to every case of the file. `like` looks among the known ones first."""
     shared, cases = [], {}
     lines = shared
     for line in path.read_text().splitlines():
@@ -33,7 +33,7 @@ def read(path):
             lines = list(shared)
             cases[words[1]] = lines
         elif words[0] == "like":
-            lines += [copied for copied in cases[words[1]] if copied not in shared and copied[0] != "expect"]
+            lines += [copied for copied in {**cases, **known}[words[1]] if copied not in shared and copied[0] != "expect"]
         else:
             lines.append(words)
     return cases

@@ -1,9 +1,13 @@
 // Solves a dozen circuits from several proposals and writes, for each, how many samples were accepted,
 // a checksum of all voltages, the last voltages, and whether all proposals agreed. The file `stdout`
-// has what should come, from a model that was written from document 01 and not from this code.
+// has what should come, from a model that was written from document 01 and not from this code. Before
+// them come document 01's own cases and refusals, sample by sample; their lines are document 01's numbers
+// and, where it has none, the second program's (bench/second).
+mod document;
 mod play;
 
 fn main() {
+    document::cases();
     play::circuit(
         b"divider",
         b"\x01\x01\x02\x00\xe8\x03\x00\x00\x01\x02\x00\x00\xe8\x03\x00\x00\x10\x00\x00\x00\x02\x00\x02\x01\x80\xbb\x00\x00\x02\x01\x10\x00",

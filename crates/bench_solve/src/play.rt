@@ -1,4 +1,5 @@
 // A circuit played for some samples, every one from several proposals.
+use circuit::advance;
 use circuit::board;
 use circuit::lines;
 use circuit::opening;
@@ -9,6 +10,9 @@ use solve::sample;
 use units::signed;
 ghost use mathlib.Core.Path.{_≡_};
 ghost use Prim.Native.Nat.{ℕ, _≤_, _<_};
+ghost use lib.ListN.{length};
+ghost use Rattle.units.specs.Voltage.{Within};
+ghost use Rattle.network.specs.Network.{reading, storedLimit};
 ghost use Rattle.image.specs.Sound.{Sound};
 ghost use Rattle.solve.specs.Sample.{Given};
 
@@ -86,15 +90,17 @@ fn proposal(which: u64, v: i64) -> i64 {
     9223372036854775807
 }
 
-// The proposal at every place, and the drive at the first driven node.
-fn propose(which: u64, k: u64, last: &[i64; 16]) -> [i64; 16] {
+// The proposal at every place, and the drive d at the driven node, where there is one.
+fn propose(which: u64, driven: usize, d: i64, last: &[i64; 16]) -> [i64; 16] {
     let mut volts = [0i64; 16];
     let mut i: usize = 0;
     while i < 16 {
         volts[i] = proposal(which, last[i]);
         i += 1;
     }
-    volts[1] = drive(k);
+    if driven != 0 {
+        volts[1] = d;
+    }
     volts
 }
 
@@ -106,13 +112,13 @@ fn attempt(
     steep: &[u64; 16],
     stored: &[i64; 32],
     which: u64,
-    k: u64,
+    d: i64,
     last: &[i64; 16],
 ) -> [i64; 16]
     requires { ⌜ Given (now image) (now board) (now lines) (now steep) (now stored) ⌝ }
 {
     let mut x = *stored;
-    let mut volts = propose(which, k, last);
+    let mut volts = propose(which, board::driven(board), d, last);
     match sample::sample(image, board, lines, steep, &mut volts, &mut x) {
         sample::Outcome::Accepted => volts,
         sample::Outcome::DriveRefused => [9; 16],
@@ -142,16 +148,16 @@ fn agree(
     lines: &[i64; 136],
     steep: &[u64; 16],
     stored: &[i64; 32],
-    k: u64,
+    d: i64,
     last: &[i64; 16],
 ) -> bool
     requires { ⌜ Given (now image) (now board) (now lines) (now steep) (now stored) ⌝ }
 {
     let nodes = board::nodes(board);
-    let first = attempt(image, board, lines, steep, stored, 0, k, last);
+    let first = attempt(image, board, lines, steep, stored, 0, d, last);
     let mut which: u64 = 1;
     while which < 7 {
-        let other = attempt(image, board, lines, steep, stored, which, k, last);
+        let other = attempt(image, board, lines, steep, stored, which, d, last);
         if alike(nodes, &first, &other) {
             which += 1;
         } else {
@@ -171,20 +177,20 @@ fn number_of(r: sample::Outcome) -> u64 {
     }
 }
 
-// Sample k on the stored currents themselves, from the last answer. Document 01's number.
-fn advance(
+// A sample on the stored currents themselves, from the last answer. Document 01's number.
+fn advanced(
     image: &[u8],
     board: &[u64; 164],
     lines: &[i64; 136],
     steep: &[u64; 16],
     stored: &mut [i64; 32],
-    k: u64,
+    d: i64,
     last: &mut [i64; 16],
 ) -> u64
     requires { ⌜ Given (now image) (now board) (now lines) (now steep) (now stored) ⌝ }
     ensures { λ r. ⌜ Given (now (image .entry)) (now (board .entry)) (now (lines .entry)) (now (steep .entry)) (now (stored .exit)) ⌝ }
 {
-    let mut volts = propose(0, k, last);
+    let mut volts = propose(0, board::driven(board), d, last);
     let r = sample::sample(image, board, lines, steep, &mut volts, stored);
     *last = volts;
     number_of(r)
@@ -208,7 +214,7 @@ fn mixed_all(sum: u64, nodes: usize, volts: &[i64; 16]) -> u64 {
     s
 }
 
-// The last voltages.
+// The voltages of all nodes.
 fn show(nodes: usize, volts: &[i64; 16]) {
     let mut i: usize = 0;
     while i < 16 {
@@ -216,6 +222,18 @@ fn show(nodes: usize, volts: &[i64; 16]) {
             number(volts[i]);
         }
         i += 1;
+    }
+}
+
+// The stored currents of all elements.
+fn show_stored(count: usize, stored: &[i64; 32]) {
+    text(b", stored");
+    let mut j: usize = 0;
+    while j < 32 {
+        if j < count {
+            number(stored[j]);
+        }
+        j += 1;
     }
     text(b"\n");
 }
@@ -233,6 +251,17 @@ fn agreed(sum: u64, nodes: usize, last: &[i64; 16]) {
     io::print_decimal(STDOUT_FILENO, sum);
     text(b", last");
     show(nodes, last);
+    text(b"\n");
+}
+
+// The number of a refused sample, or an accepted one's voltages.
+fn tell(r: u64, nodes: usize, volts: &[i64; 16]) {
+    if r == 0 {
+        show(nodes, volts);
+    } else {
+        text(b" refused ");
+        io::print_decimal(STDOUT_FILENO, r);
+    }
 }
 
 // n samples.
@@ -251,8 +280,8 @@ fn samples(
     let mut sum: u64 = 1;
     let mut k: u64 = 0;
     while k < n {
-        if agree(image, board, lines, steep, stored, k, &last) {
-            if advance(image, board, lines, steep, stored, k, &mut last) == 0 {
+        if agree(image, board, lines, steep, stored, drive(k), &last) {
+            if advanced(image, board, lines, steep, stored, drive(k), &mut last) == 0 {
                 sum = mixed_all(sum, nodes, &last);
                 k += 1;
             } else {
@@ -267,25 +296,63 @@ fn samples(
     agreed(sum, nodes, &last);
 }
 
-// An accepted image.
-fn opened(image: &[u8], c: Circuit, n: u64)
+// One sample of drive d: from all proposals, those beside its own answer among them.
+fn once(
+    image: &[u8],
+    board: &[u64; 164],
+    lines: &[i64; 136],
+    steep: &[u64; 16],
+    stored: &mut [i64; 32],
+    d: i64,
+)
+    requires { ⌜ Given (now image) (now board) (now lines) (now steep) (now stored) ⌝ }
+{
+    let zeros = [0i64; 16];
+    let mut last = attempt(image, board, lines, steep, stored, 1, d, &zeros);
+    if agree(image, board, lines, steep, stored, d, &last) {
+        let r = advanced(image, board, lines, steep, stored, d, &mut last);
+        tell(r, board::nodes(board), &last);
+        show_stored(board::count(board), stored);
+    } else {
+        differ();
+    }
+}
+
+// Stored currents that are zero but for x at element `at`.
+fn charged(at: usize, x: i64) -> [i64; 32]
+    ensures { λ r. ⌜ (length r ≡ 32) × ((j : ℕ) → Within storedLimit (reading r j)) ⌝ }
+{
+    let mut stored = [0i64; 32];
+    if at < 32 {
+        if advance::is_kept(x) {
+            stored[at] = x;
+        }
+    }
+    stored
+}
+
+// An accepted image: n samples, or where n is 0 the one of drive d.
+fn opened(image: &[u8], c: Circuit, n: u64, at: usize, x: i64, d: i64)
     requires { ⌜ Sound (now image) c ⌝ }
 {
     let board = opening::board(c);
     let start = c.start;
     let lines = lines::table(image, &start);
     let steep = opening::steepest_sums(image, &board, &lines);
-    let mut stored = [0i64; 32];
-    samples(image, &board, &lines, &steep, &mut stored, n);
+    let mut stored = charged(at, x);
+    if n == 0 {
+        once(image, &board, &lines, &steep, &mut stored, d);
+    } else {
+        samples(image, &board, &lines, &steep, &mut stored, n);
+    }
 }
 
-// An image of this name, which must be accepted.
-pub fn circuit(name: &[u8], image: &[u8], n: u64) {
-    text(name);
+// An image, which must be accepted.
+fn played(image: &[u8], n: u64, at: usize, x: i64, d: i64) {
     let o = image::read(image);
     let a = o.answer;
     match a {
-        Answer::Accepted => opened(image, o.circuit, n),
+        Answer::Accepted => opened(image, o.circuit, n, at, x, d),
         Answer::Length => text(b" length\n"),
         Answer::Trailer => text(b" trailer\n"),
         Answer::Sizes => text(b" sizes\n"),
@@ -293,4 +360,22 @@ pub fn circuit(name: &[u8], image: &[u8], n: u64) {
         Answer::Elements => text(b" elements\n"),
         Answer::Conductances => text(b" conductances\n"),
     }
+}
+
+// n samples of the circuit of this name, from a fresh state.
+pub fn circuit(name: &[u8], image: &[u8], n: u64) {
+    text(name);
+    played(image, n, 0, 0, 0);
+}
+
+// One sample of drive d, begun with x stored at element `at`: its number or its voltages, and all
+// stored currents after it.
+pub fn case(name: &[u8], image: &[u8], at: usize, x: i64, d: i64) {
+    text(name);
+    text(b", stored");
+    number(x);
+    text(b", drive");
+    number(d);
+    text(b":");
+    played(image, 0, at, x, d);
 }

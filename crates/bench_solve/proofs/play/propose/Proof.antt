@@ -5,10 +5,10 @@ use Rattle.bench_solve.proofs.play.propose.Statement.{statement}
 use Rattle.bench_solve.proofs.play.propose.Tie as tie
 
 abbrev Inv-loop : tie.InvT-loop
-Inv-loop which k last volts₀ i₀ volts i = i ≤ 16
+Inv-loop which driven d last volts₀ i₀ volts i = i ≤ 16
 
 abbrev μ-loop : tie.MeasureT-loop
-μ-loop which k last volts₀ i₀ volts i = 16 - i
+μ-loop which driven d last volts₀ i₀ volts i = 16 - i
 
 loop-holds : tie.Need-loop-holds Inv-loop μ-loop
 loop-holds c = search needs
@@ -37,14 +37,14 @@ loop-less c = search needs
 loop-again : tie.Need-loop-again Inv-loop μ-loop
 loop-again c = search needs
 
-drive-requires : tie.Need-drive-requires Inv-loop μ-loop
-drive-requires c κs = search needs
-
 array-set-from-volts-2 : tie.Need-array-set-from-volts-2 Inv-loop μ-loop
 array-set-from-volts-2 c = search needs
 
 returns : tie.Need-returns Inv-loop μ-loop
 returns c = search needs
+
+returns-2 : tie.Need-returns-2 Inv-loop μ-loop
+returns-2 c = search needs
 
 pub propose-spec : {M : Type 1} → statement M
 propose-spec =
@@ -61,6 +61,6 @@ propose-spec =
     add-i
     loop-less
     loop-again
-    drive-requires
     array-set-from-volts-2
-    returns)
+    returns
+    returns-2)

@@ -17,23 +17,29 @@ nodes-requires c κs = search needs
 loop-holds : tie.Need-loop-holds Inv-loop μ-loop
 loop-holds c = c .before .before .pre
 
-agree-requires : tie.Need-agree-requires Inv-loop μ-loop
-agree-requires c κs = c .before .before .before .loop .inv
+drive-requires : tie.Need-drive-requires Inv-loop μ-loop
+drive-requires c κs = search needs
 
-advance-requires : tie.Need-advance-requires Inv-loop μ-loop
-advance-requires c κs = c .before .before .before .before .before .before .before .loop .inv
+agree-requires : tie.Need-agree-requires Inv-loop μ-loop
+agree-requires c κs = c .before .before .before .before .loop .inv
+
+drive-requires-2 : tie.Need-drive-requires-2 Inv-loop μ-loop
+drive-requires-2 c κs = search needs
+
+advanced-requires : tie.Need-advanced-requires Inv-loop μ-loop
+advanced-requires c κs = c .before .before .before .before .before .before .before .before .before .loop .inv
 
 mixed-all-requires : tie.Need-mixed-all-requires Inv-loop μ-loop
 mixed-all-requires c κs = search needs
 
 add-k : tie.Need-add-k Inv-loop μ-loop
-add-k c = record { fits = omega (arith, c .before .before .before .before .before .before .before .before .before .before .before .before .before .before .fits .n) }
+add-k c = record { fits = omega (arith, c .before .before .before .before .before .before .before .before .before .before .before .before .before .before .before .before .fits .n) }
 
 loop-less : tie.Need-loop-less Inv-loop μ-loop
 loop-less c = omega arith
 
 loop-again : tie.Need-loop-again Inv-loop μ-loop
-loop-again c = c .before .before .before .advance .ensures
+loop-again c = c .before .before .before .advanced .ensures
 
 refused-requires : tie.Need-refused-requires Inv-loop μ-loop
 refused-requires c κs = search needs
@@ -61,8 +67,10 @@ samples-spec =
     μ-loop
     nodes-requires
     loop-holds
+    drive-requires
     agree-requires
-    advance-requires
+    drive-requires-2
+    advanced-requires
     mixed-all-requires
     add-k
     loop-less

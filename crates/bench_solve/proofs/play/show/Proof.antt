@@ -5,10 +5,10 @@ use Rattle.bench_solve.proofs.play.show.Statement.{statement}
 use Rattle.bench_solve.proofs.play.show.Tie as tie
 
 abbrev Inv-loop : tie.InvT-loop
-Inv-loop nodes volts i₀ t4 i = i ≤ 16
+Inv-loop nodes volts i₀ i = i ≤ 16
 
 abbrev μ-loop : tie.MeasureT-loop
-μ-loop nodes volts i₀ t4 i = 16 - i
+μ-loop nodes volts i₀ i = 16 - i
 
 loop-holds : tie.Need-loop-holds Inv-loop μ-loop
 loop-holds c = search needs
@@ -31,12 +31,6 @@ loop-less c = search needs
 loop-again : tie.Need-loop-again Inv-loop μ-loop
 loop-again c = search needs
 
-slice-aggregate-text : tie.Need-slice-aggregate-text Inv-loop μ-loop
-slice-aggregate-text c = search needs
-
-text-requires : tie.Need-text-requires Inv-loop μ-loop
-text-requires c κs = search needs
-
 returns : tie.Need-returns Inv-loop μ-loop
 returns c = search needs
 
@@ -53,6 +47,4 @@ show-spec =
     add-i
     loop-less
     loop-again
-    slice-aggregate-text
-    text-requires
     returns)

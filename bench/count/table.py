@@ -1,0 +1,62 @@
+"""table.py FILE [--time RUNS]: the table of costs of a file's circuits, in Markdown.
+
+Wants target/bench/count and, for times, target/bench/time and target/bench/float: count.sh builds them and calls this.
+"""
+
+import pathlib
+import subprocess
+import sys
+
+HERE = pathlib.Path(__file__).parent
+BENCH = HERE.parent.parent / "target" / "bench"
+sys.path.insert(0, str(HERE.parent / "cases"))
+
+import describe  # noqa: E402
+
+# One block, so that what its first sample costs, which has no sample before it to begin at, is one in 4,096. Where a sample takes
+# milliseconds, fewer will do.
+SAMPLES = 4096
+FEWER = {"thirteen_diodes": 256}
+# Whatever a circuit's own rate is, its times are held against this one.
+RATE = 48000
+SINES = [line.split() for line in ("quiet", "drive 1 sine 4000000 440", "drive 1 sine 4000000 1730")]
+
+
+def builds(path):
+    """The file's circuits under the table's drive, by name."""
+    known = describe.read(HERE.parent / "cases" / "circuits.txt")
+    return {name: describe.Build([*lines, *SINES, ["samples", FEWER.get(name, SAMPLES)]])
+            for name, lines in describe.read(path, known).items()}
+
+
+def said(*words):
+    """The numbers in what a program writes."""
+    run = subprocess.run([str(word) for word in words], stdout=subprocess.PIPE, text=True, check=True)
+    return [float(word) for word in run.stdout.split() if word[0].isdigit()]
+
+
+def cells(name, build, runs):
+    files = []
+    for kind in "image", "drives":
+        files.append(BENCH / f"row.{kind}")
+        files[-1].write_bytes(getattr(build, kind))
+    free = build.fields["nodes"] - build.fields["drives"]
+    mean, greatest = said(BENCH / "count", *files)
+    yield from (name.replace("_", " "), f"{free}", f"{len(build.elements)}", f"{build.samples:,}", f"{mean:,.1f}", f"{greatest:,.0f}")
+    if runs:
+        (ours,), (floats,) = said(BENCH / "time", "--time", runs, *files), said(BENCH / "float", "--time", runs, *files)
+        yield from (f"{ours:,.0f}", f"{1e9 / RATE / ours:,.3g}", f"{floats:,.0f}", f"{ours / floats:,.1f}")
+
+
+def main(path, runs):
+    heads = ["circuit", "free nodes", "elements", "samples", "evaluations, mean", "most"]
+    if runs:
+        heads += ["ns a sample", "times real time at 48 kHz", "f64: ns a sample", "ours / f64"]
+    for row in heads, ["---"] * len(heads):
+        print(f"| {' | '.join(row)} |", flush=True)
+    for name, build in builds(path).items():
+        print(f"| {' | '.join(cells(name, build, runs))} |", flush=True)
+
+
+if __name__ == "__main__":
+    main(pathlib.Path(sys.argv[1]), int(sys.argv[3]) if "--time" in sys.argv else 0)
