@@ -4,8 +4,7 @@
 //
 // The matrix is symmetric, with a leak on each diagonal that outweighs the rest of its row: no pivot
 // has to be searched for, and the half above the diagonal is all that elimination needs.
-ghost use mathlib.Core.Path.{_≡_};
-ghost use Prim.Native.Nat.{ℕ, _≤_, _<_};
+ghost use Prim.Native.Nat.{_≤_, _<_};
 
 // What comes of an elimination: x, unless a pivot was zero or below, or a NaN.
 pub struct Solution {

@@ -4,7 +4,7 @@ use crate::places;
 use circuit::board;
 use units::signed;
 use units::voltage::Voltage;
-ghost use Prim.Native.Nat.{ℕ, _≤_, _<_};
+ghost use Prim.Native.Nat.{_≤_, _<_};
 ghost use Rattle.units.specs.Voltage.{InRange};
 ghost use Rattle.circuit.specs.Board.{nodesOn, drivenOn};
 ghost use Rattle.guess.specs.Proposal.{Proposed};
