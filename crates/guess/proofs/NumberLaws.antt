@@ -1,5 +1,5 @@
 -- Numbers that the code has in hand are small enough. Assumes nothing.
-use mathlib.Core.Path.{_≡_, refl, sym, _∙_}
+use mathlib.Core.Path.{_≡_, refl}
 use mathlib.Core.Bool.{Bool, true, false}
 use Prim.Native.Nat.{ℕ, _*_, _^_, _≤_}
 use native.Mathlib.Omega.{arith}
@@ -11,7 +11,6 @@ use borrow.Author.Tests.{leb-true}
 use Rattle.units.specs.Voltage.{within, voltageLimit, InRange}
 use Rattle.units.specs.Float.{nearestVoltage, nearestRatio, signed, pick, rounded}
 use Rattle.units.specs.declared.voltage.Voltage.{Voltage}
-use Rattle.units.specs.declared.voltage.Nearest.{Nearest}
 use Rattle.units.specs.declared.voltage.Nearest.the-variants.{At, Nothing}
 
 -- an i64's size

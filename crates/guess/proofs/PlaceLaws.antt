@@ -1,9 +1,9 @@
 -- Places that are written one after the other, and the board's indices. Assumes nothing.
-use mathlib.Core.Path.{_≡_, refl, sym, _∙_}
+use mathlib.Core.Path.{_≡_, refl, _∙_}
 use mathlib.Core.Bool.{Bool, true, false}
 use mathlib.Core.List.{List}
 use mathlib.Core.Logic.{_⊎_, inl, inr, ⊎-elim}
-use Prim.Native.Nat.{ℕ, zero, suc, _+_, _≤_, _<_}
+use Prim.Native.Nat.{ℕ, suc, _+_, _≤_, _<_}
 use native.Mathlib.Omega.{arith}
 use lib.Dec.{eqb}
 use lib.IntN.{ℤ, pos}
@@ -13,7 +13,7 @@ use borrow.Author.Tests.{eqb-true, eqb-false}
 use Rattle.units.specs.Voltage.{InRange}
 use Rattle.units.proofs.Integers.{decideN}
 use Rattle.network.specs.Network.{reading}
-use Rattle.circuit.specs.Board.{nodesOn, drivenOn, countOn, Ready, Ranged}
+use Rattle.circuit.specs.Board.{nodesOn, drivenOn, Ready}
 use Rattle.circuit.proofs.BoardLaws.{few-nodes, few-elements, p-node, q-node}
 use Rattle.guess.specs.Proposal.{Fitting, Standing, Proposed}
 

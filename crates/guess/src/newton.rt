@@ -7,8 +7,7 @@ use crate::ties;
 use circuit::board;
 use units::voltage::Nearest;
 use units::voltage::Voltage;
-ghost use mathlib.Core.Path.{_≡_};
-ghost use Prim.Native.Nat.{ℕ, _≤_, _<_};
+ghost use Prim.Native.Nat.{_≤_, _<_};
 ghost use Rattle.circuit.specs.Board.{nodesOn, drivenOn, Evaluable};
 ghost use Rattle.guess.specs.Proposal.{Fitting, Standing, Proposed};
 

@@ -2,7 +2,7 @@
 use circuit::board;
 use units::voltage::Voltage;
 ghost use mathlib.Core.Path.{_≡_};
-ghost use Prim.Native.Nat.{ℕ, _≤_, _<_};
+ghost use Prim.Native.Nat.{_≤_, _<_};
 ghost use lib.ListN.{length};
 ghost use Rattle.circuit.specs.Board.{nodesOn, drivenOn, Ranged};
 ghost use Rattle.guess.specs.Proposal.{Standing, Proposed};

@@ -4,7 +4,7 @@ use crate::newton::Ending;
 use crate::places;
 use crate::slide;
 use circuit::board;
-ghost use Prim.Native.Nat.{ℕ, _≤_, _<_};
+ghost use Prim.Native.Nat.{_<_};
 ghost use Rattle.guess.specs.Proposal.{Given, Proposed};
 
 // With one free node integers do it alone; else Newton does. `volts` may hold anything; its ground and

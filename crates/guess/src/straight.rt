@@ -4,9 +4,8 @@ use crate::matrix;
 use crate::tangent;
 use crate::tangent::Tangent;
 use circuit::board;
-ghost use mathlib.Core.Path.{_≡_};
-ghost use Prim.Native.Nat.{ℕ, _≤_, _<_};
-ghost use Rattle.circuit.specs.Board.{nodesOn, drivenOn, Evaluable};
+ghost use Prim.Native.Nat.{_≤_, _<_};
+ghost use Rattle.circuit.specs.Board.{nodesOn, Evaluable};
 ghost use Rattle.guess.specs.Proposal.{Fitting};
 
 // The tangents once more, and whether some diode is on another line than before.

@@ -4,7 +4,7 @@ use circuit::board;
 use circuit::branch;
 use circuit::curve;
 ghost use mathlib.Core.Path.{_≡_};
-ghost use Prim.Native.Nat.{ℕ, _≤_, _<_};
+ghost use Prim.Native.Nat.{_<_};
 ghost use Rattle.circuit.specs.Board.{countOn, kindOn, CurveReady, Evaluable};
 ghost use Rattle.image.specs.Circuit.{diodeKind};
 

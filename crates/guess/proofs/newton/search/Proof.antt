@@ -1,7 +1,6 @@
 use borrow.Author.Tests.{ltb-true}
-use Prim.Native.Nat.{ℕ, _+_, _-_, _≤_, _<_}
+use Prim.Native.Nat.{_-_, _≤_, _<_}
 use native.Mathlib.Omega.{arith}
-use mathlib.Core.Path.{_≡_, refl, sym, _∙_}
 use Rattle.guess.specs.Proposal.{Standing}
 use borrow.Author.Needs.{needs}
 use Rattle.guess.proofs.newton.search.Statement.{statement}

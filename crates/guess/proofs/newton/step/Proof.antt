@@ -1,11 +1,11 @@
-use mathlib.Core.Path.{_≡_, refl, sym, _∙_}
+use mathlib.Core.Path.{_≡_, sym, _∙_}
 use mir.Syntax.{w64}
 use mir.Val.{toZ, ofZ}
 use Rattle.circuit.specs.Board.{drivenOn}
 use Rattle.guess.specs.Proposal.{Standing}
 use Rattle.guess.proofs.PlaceLaws.{standing-set}
 use Rattle.guess.proofs.NumberLaws.{nearest-ranged}
-use Prim.Native.Nat.{ℕ, _+_, _-_, _≤_, _<_}
+use Prim.Native.Nat.{_-_, _≤_, _<_}
 use native.Mathlib.Omega.{arith}
 use borrow.Author.Needs.{needs}
 use Rattle.guess.proofs.newton.step.Statement.{statement}

@@ -1,10 +1,10 @@
-use mathlib.Core.Path.{_≡_, refl, sym, _∙_}
+use mathlib.Core.Path.{_≡_}
 use mir.Syntax.{w64}
 use mir.Val.{toZ, ofZ}
 use Rattle.network.specs.Network.{reading}
 use Rattle.circuit.specs.Board.{nodesOn, drivenOn}
 use Rattle.guess.proofs.PlaceLaws.{ProposedTo, proposed-none, proposed-more, proposed-all}
-use Prim.Native.Nat.{ℕ, _+_, _-_, _≤_, _<_}
+use Prim.Native.Nat.{_+_, _-_, _≤_, _<_}
 use native.Mathlib.Omega.{arith}
 use borrow.Author.Needs.{needs}
 use Rattle.guess.proofs.places.put.Statement.{statement}

@@ -1,11 +1,11 @@
 use lib.IntN.{pos}
-use mathlib.Core.Path.{_≡_, refl, sym, _∙_}
+use mathlib.Core.Path.{_≡_, _∙_}
 use mir.Syntax.{w64}
 use mir.Val.{toZ, ofZ}
 use Rattle.units.proofs.Clamping.{clamped-ranged}
 use Rattle.circuit.specs.Board.{nodesOn}
 use Rattle.guess.proofs.PlaceLaws.{StandingTo, standing-none, standing-more, standing-all}
-use Prim.Native.Nat.{ℕ, _+_, _-_, _≤_, _<_}
+use Prim.Native.Nat.{_+_, _-_, _≤_}
 use native.Mathlib.Omega.{arith}
 use borrow.Author.Needs.{needs}
 use Rattle.guess.proofs.places.seated.Statement.{statement}

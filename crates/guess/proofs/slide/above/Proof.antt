@@ -1,8 +1,7 @@
-use mathlib.Core.Path.{_≡_, refl, sym, _∙_}
+use mathlib.Core.Path.{_≡_, _∙_}
 use native.Mathlib.Omega.{arith}
 use mir.Syntax.{w64}
 use mir.Val.{toZ, ofZ}
-use lib.IntN.{pos}
 use mir.Facts.{toZ-ofZ}
 use Rattle.units.proofs.Clamping.{clamped-ranged}
 use borrow.Author.Needs.{needs}

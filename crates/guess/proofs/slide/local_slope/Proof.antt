@@ -1,12 +1,11 @@
-use mathlib.Core.Path.{_≡_, refl, sym, _∙_}
+use mathlib.Core.Path.{_≡_, sym, _∙_}
 use native.Mathlib.Omega.{arith}
 use mir.Syntax.{w64}
 use mir.Val.{toZ, ofZ}
-use Prim.Native.Nat.{ℕ, _≤_}
+use Prim.Native.Nat.{_≤_}
 use lib.ListN.{getD}
-use Rattle.image.specs.Circuit.{diodeKind}
 use Rattle.image.specs.Curve.{curveBytes}
-use Rattle.circuit.specs.Board.{kindOn, valueOn, acrossOn, DiodeReady}
+use Rattle.circuit.specs.Board.{valueOn, DiodeReady}
 use Rattle.circuit.proofs.BoardLaws.{ends, conductance-fits}
 use Rattle.circuit.proofs.CurveLaws.{slope-fits, stretch-few}
 use borrow.Author.Needs.{needs}

@@ -1,15 +1,13 @@
-use lib.IntN.{ℤ}
 use lib.ListN.{set}
 use Rattle.network.specs.Network.{reading}
-use mathlib.Core.Path.{_≡_, refl, sym, _∙_}
+use mathlib.Core.Path.{_≡_}
 use Prim.Native.Nat.{_^_}
 use mir.Syntax.{w64}
 use mir.Val.{toZ, ofZ}
-use Rattle.circuit.specs.Board.{Evaluable}
 use Rattle.guess.specs.Proposal.{Standing}
 use Rattle.circuit.proofs.BoardLaws.{few-nodes}
 use Rattle.guess.proofs.PlaceLaws.{standing-set}
-use Prim.Native.Nat.{ℕ, _+_, _-_, _≤_, _<_}
+use Prim.Native.Nat.{_-_, _≤_, _<_}
 use native.Mathlib.Omega.{arith}
 use borrow.Author.Needs.{needs}
 use Rattle.guess.proofs.slide.slide.Statement.{statement}

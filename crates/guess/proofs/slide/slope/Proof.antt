@@ -1,8 +1,7 @@
 use Prim.Native.Nat.{_*_, _^_}
 use mathlib.Core.Path.{_≡_}
 use Rattle.circuit.specs.Board.{countOn}
-use Prim.Native.Nat.{ℕ, _+_, _-_, _≤_, _<_}
-use native.Mathlib.Omega.{arith}
+use Prim.Native.Nat.{_+_, _-_, _≤_, _<_}
 use borrow.Author.Needs.{needs}
 use Rattle.guess.proofs.slide.slope.Statement.{statement}
 use Rattle.guess.proofs.slide.slope.Tie as tie

@@ -1,4 +1,3 @@
-use mathlib.Core.Path.{_≡_}
 use borrow.Author.Needs.{needs}
 use Rattle.circuit.proofs.BoardLaws.{ends}
 use Rattle.guess.proofs.tangent.of_diode.Statement.{statement}
