@@ -9,3 +9,4 @@ pub mod slide;
 pub mod straight;
 pub mod tangent;
 pub mod ties;
+pub mod whole;

@@ -4,6 +4,7 @@ use crate::matrix;
 use crate::places;
 use crate::straight;
 use crate::ties;
+use crate::whole;
 use circuit::board;
 use units::voltage::Nearest;
 use units::voltage::Voltage;
@@ -22,10 +23,6 @@ pub enum Ending {
 pub enum Round {
     Moved(f64),
     Lost,
-}
-
-fn size(x: f64) -> f64 {
-    if x < 0.0 { -x } else { x }
 }
 
 fn larger(a: f64, b: f64) -> f64 {
@@ -62,7 +59,7 @@ fn step(board: &[u64; 164], more: [f64; 16], x: &mut [f64; 16], volts: &mut [i64
         match Voltage::from_f64(x[i] + more[i]) {
             Nearest::At(v) => {
                 let next = v.to_f64();
-                most = larger(most, size(next - x[i]));
+                most = larger(most, whole::size(next - x[i]));
                 x[i] = next;
                 let whole = v.microvolts;
                 volts[i] = whole;
@@ -84,7 +81,7 @@ fn largest(board: &[u64; 164], nets: [f64; 16]) -> f64
     let mut most: f64 = 0.0;
     let mut i = board::driven(board) + 1;
     while i <= nodes {
-        most = larger(most, size(nets[i]));
+        most = larger(most, whole::size(nets[i]));
         i += 1;
     }
     most
@@ -110,7 +107,7 @@ fn cut(
         return Ending::Broken;
     }
     let left_over = solution.x;
-    let whole = ties::whole(&m, &nets, left_over, driven, nodes);
+    let whole = ties::cut(&m, &nets, left_over, driven, nodes);
     match step(board, whole, x, volts) {
         Round::Lost => Ending::Broken,
         Round::Moved(_) => {

@@ -7,8 +7,8 @@ use circuit::board;
 ghost use Prim.Native.Nat.{_<_};
 ghost use Rattle.guess.specs.Proposal.{Given, Proposed};
 
-// With one free node integers do it alone; else Newton does. `volts` may hold anything; its ground and
-// driven nodes stay as they are.
+// One free node slides, more go Newton's way; with none a driven node slides, and is not put back. `volts`
+// may hold anything; its ground and driven nodes stay as they are.
 pub fn propose(
     image: &[u8],
     board: &[u64; 164],

@@ -1,42 +1,29 @@
-// The proposer for a circuit with one free node: Newton in integers, which is exact as soon as the
-// slope at the new place is the one that was used.
+// The proposer for a circuit with one free node: Newton with a line in place of a matrix. Where the line
+// of the node's net current crosses zero is exact as soon as it is the line at the new place too.
 use crate::newton::Ending;
+use crate::tangent;
+use crate::tangent::Tangent;
+use crate::whole;
 use circuit::board;
 use circuit::branch;
-use circuit::curve;
-use circuit::node;
-use units::signed;
+use units::voltage::Nearest;
 use units::voltage::Voltage;
-ghost use Prim.Native.Nat.{_+_, _*_, _^_, _≤_, _<_};
-ghost use Rattle.units.specs.Voltage.{InRange};
-ghost use Rattle.circuit.specs.Board.{countOn, nodesOn, Evaluable};
+ghost use mathlib.Core.Path.{_≡_};
+ghost use Prim.Native.Nat.{ℕ, _≤_, _<_};
+ghost use Rattle.circuit.specs.Board.{countOn, Evaluable};
 ghost use Rattle.guess.specs.Proposal.{Standing};
 
-// The slope of element j where it stands.
-fn local_slope(
-    image: &[u8],
-    board: &[u64; 164],
-    lines: &[i64; 136],
-    stored: &[i64; 32],
-    volts: &[i64; 16],
-    j: usize,
-) -> u64
-    requires { ⌜ Evaluable (now image) (now board) (now lines) (now stored) (now volts) × (j < countOn (now board)) ⌝ }
-    ensures { λ r. ⌜ r ≤ 2 ^ 30 ⌝ }
+fn float_at(volts: &[i64; 16], i: usize) -> f64
+    requires { ⌜ i ≤ 15 ⌝ }
 {
-    let value = board::value(board, j);
-    if board::kind(board, j) == 4 {
-        let curve = image::curve_at(image, value as usize);
-        return image::slope(
-            curve,
-            curve::stretch(curve, branch::across(board, volts, j)),
-        );
-    }
-    value
+    let v = Voltage {
+        microvolts: volts[i],
+    };
+    v.to_f64()
 }
 
-// .. if the node is one of its ends.
-fn slope_by(
+// What leaves the node by element j, as a line over the node's own voltage.
+fn leaving(
     image: &[u8],
     board: &[u64; 164],
     lines: &[i64; 136],
@@ -44,83 +31,83 @@ fn slope_by(
     volts: &[i64; 16],
     j: usize,
     node: usize,
-) -> u64
+) -> Tangent
     requires { ⌜ Evaluable (now image) (now board) (now lines) (now stored) (now volts) × (j < countOn (now board)) ⌝ }
-    ensures { λ r. ⌜ r ≤ 2 ^ 30 ⌝ }
 {
     match branch::end_at(board, j, node) {
-        branch::End::P => local_slope(image, board, lines, stored, volts, j),
-        branch::End::Q => local_slope(image, board, lines, stored, volts, j),
-        branch::End::Neither => 0,
+        branch::End::P => {
+            let t = tangent::of_element(image, board, lines, stored, volts, j);
+            let other = float_at(volts, board::end_q(board, j));
+            Tangent {
+                slope: t.slope,
+                at_zero: t.at_zero - t.slope * other,
+            }
+        }
+        branch::End::Q => {
+            let t = tangent::of_element(image, board, lines, stored, volts, j);
+            let other = float_at(volts, board::end_p(board, j));
+            Tangent {
+                slope: t.slope,
+                at_zero: -t.at_zero - t.slope * other,
+            }
+        }
+        branch::End::Neither => Tangent {
+            slope: 0.0,
+            at_zero: 0.0,
+        },
     }
 }
 
-// By how much the node's net current rises with each microvolt, where it stands.
-fn slope(
+// The line of the node's net current where it stands.
+fn line(
     image: &[u8],
     board: &[u64; 164],
     lines: &[i64; 136],
     stored: &[i64; 32],
     volts: &[i64; 16],
     node: usize,
-) -> u64
+) -> Tangent
     requires { ⌜ Evaluable (now image) (now board) (now lines) (now stored) (now volts) ⌝ }
-    ensures { λ r. ⌜ (0 < r) × (r < 2 ^ 36) ⌝ }
 {
     let count = board::count(board);
-    let mut sum = board::leak(board);
+    let mut slope = std::num::nearest_u64_to_f64(board::leak(board));
+    let mut at_zero: f64 = 0.0;
     let mut j: usize = 0;
     while j < count {
-        sum += slope_by(image, board, lines, stored, volts, j, node);
+        let t = leaving(image, board, lines, stored, volts, j, node);
+        slope = slope + t.slope;
+        at_zero = at_zero + t.at_zero;
         j += 1;
     }
-    sum
+    Tangent { slope, at_zero }
 }
 
-// v less n, or v and n, brought into range. Beyond 2^27 either way there is only the rail.
-fn below(v: i64, n: u64) -> i64
-    requires { ⌜ InRange v ⌝ }
-    ensures { λ r. ⌜ InRange r ⌝ }
+// The last whole microvolt before the line is above zero.
+fn crossing(t: Tangent) -> f64 {
+    whole::floor(-t.at_zero / t.slope)
+}
+
+// How much of the net current is left at v.
+fn left(t: Tangent, v: f64) -> f64 {
+    whole::size(t.slope * v + t.at_zero)
+}
+
+// The node put at the voltage that x is. False if it is none.
+fn put(board: &[u64; 164], x: f64, node: usize, volts: &mut [i64; 16]) -> bool
+    requires { ⌜ Standing (now board) (now volts) × (node ≤ 15) ⌝ }
+    ensures { λ r. ⌜ Standing (now (board .entry)) (now (volts .exit)) ⌝ }
 {
-    if n < 134217728 {
-        return Voltage::clamped(signed::minus(v, signed::whole(n)));
+    match Voltage::from_f64(x) {
+        Nearest::At(v) => {
+            let at = v.microvolts;
+            volts[node] = at;
+            true
+        }
+        Nearest::Nothing => false,
     }
-    signed::minus(0, Voltage::LIMIT)
 }
 
-fn above(v: i64, n: u64) -> i64
-    requires { ⌜ InRange v ⌝ }
-    ensures { λ r. ⌜ InRange r ⌝ }
-{
-    if n < 134217728 {
-        return Voltage::clamped(signed::plus(v, signed::whole(n)));
-    }
-    Voltage::LIMIT
-}
-
-// Where the net current f comes to zero on a line of slope s, or the last place before it does: a net
-// current just below zero is what the search wants of an answer.
-fn moved(v: i64, f: i64, s: u64) -> i64
-    requires { ⌜ InRange v × (0 < s) × (s < 2 ^ 36) ⌝ }
-    ensures { λ r. ⌜ InRange r ⌝ }
-{
-    let n = signed::size(f);
-    if signed::less(0, f) {
-        return below(v, signed::rounded_up(n, s));
-    }
-    above(v, n / s)
-}
-
-// What remains of f after a move from v to u on a line of slope s.
-fn remaining(f: i64, s: u64, v: i64, u: i64) -> f64 {
-    let from = Voltage { microvolts: v };
-    let to = Voltage { microvolts: u };
-    let left = std::num::nearest_i64_to_f64(f)
-        - std::num::nearest_u64_to_f64(s) * (from.to_f64() - to.to_f64());
-    if left < 0.0 { -left } else { left }
-}
-
-// The node moved, at most four times; a driven node stays, which a circuit without a free one asks for.
+// The node moved until its line stays the same, or often enough.
 pub fn slide(
     image: &[u8],
     board: &[u64; 164],
@@ -129,27 +116,25 @@ pub fn slide(
     node: usize,
     volts: &mut [i64; 16],
 ) -> Ending
-    requires { ⌜ Evaluable (now image) (now board) (now lines) (now stored) (now volts) × Standing (now board) (now volts) × (node ≤ nodesOn (now board)) ⌝ }
+    requires { ⌜ Evaluable (now image) (now board) (now lines) (now stored) (now volts) × Standing (now board) (now volts) × (node ≤ 15) ⌝ }
     ensures { λ r. ⌜ Standing (now (board .entry)) (now (volts .exit)) ⌝ }
 {
-    if node <= board::driven(board) {
-        return Ending::Settled(0.0);
-    }
-    let mut s = slope(image, board, lines, stored, volts, node);
-    let mut left: f64 = 0.0;
+    let mut t = line(image, board, lines, stored, volts, node);
+    let mut x: f64 = 0.0;
+    let mut changed = true;
     let mut rounds: u64 = 0;
-    while rounds < 4 {
-        let f = node::net_current(image, board, lines, stored, volts, node);
-        let v = volts[node];
-        let u = moved(v, f, s);
-        volts[node] = u;
-        left = remaining(f, s, v, u);
-        let next = slope(image, board, lines, stored, volts, node);
-        if next == s {
-            return Ending::Settled(left);
+    while changed && rounds < 12 {
+        x = crossing(t);
+        if !put(board, x, node, volts) {
+            return Ending::Broken;
         }
-        s = next;
+        let next = line(image, board, lines, stored, volts, node);
+        changed = (next.slope != t.slope) | (next.at_zero != t.at_zero);
+        t = next;
         rounds += 1;
     }
-    Ending::Spent(left)
+    if changed {
+        return Ending::Spent(left(t, x));
+    }
+    Ending::Settled(left(t, x))
 }

@@ -10,6 +10,7 @@
 //
 // Voltages here are what is added to whole microvolts, so a tie's difference is a whole number too.
 use crate::matrix;
+use crate::whole;
 ghost use mathlib.Core.Path.{_≡_};
 ghost use Prim.Native.Nat.{ℕ, _≤_, _<_};
 
@@ -37,29 +38,8 @@ pub struct Link {
 // A link less stiff than this is left to the integers.
 const LEAST_STIFFNESS: f64 = 4.0;
 
-// From 2^52 to 2^53 an f64 has room for whole numbers alone; this stands in the middle.
-const WHOLE: f64 = 6755399441055744.0;
-
-// A voltage that misses a whole number by less than this is taken for it: elimination rounds.
-const ROUNDED: f64 = 0.000001;
-
 // Lower than anything stands.
 const LOWEST: f64 = -9007199254740992.0;
-
-// The nearest whole number, of anything below 2^51.
-fn nearest(x: f64) -> f64 {
-    (x + WHOLE) - WHOLE
-}
-
-// The whole number at or below x.
-fn floor(x: f64) -> f64 {
-    let y = x + ROUNDED;
-    let whole = nearest(y);
-    if y < whole {
-        return whole - 1.0;
-    }
-    whole
-}
 
 // A place of 16, whatever the number.
 fn place(i: usize) -> usize
@@ -159,7 +139,7 @@ fn strained(
     let mut k = first;
     while k < end {
         if 0 < to[k + 1] {
-            if m[k][k] * ROUNDED < net(m, b, at, k, first, end) {
+            if m[k][k] * whole::ROUNDED < net(m, b, at, k, first, end) {
                 return k + 1;
             }
         }
@@ -192,7 +172,7 @@ fn solved(m: &[[f64; 15]; 15], b: &[f64; 16], ties: Ties, first: usize, end: usi
         let r = root(&to, i);
         to[i] = 0;
         to[r] = i;
-        by[r] = nearest(at[r] - at[i]);
+        by[r] = whole::nearest(at[r] - at[i]);
         turn += 1;
     }
     Ties { to, by, at }
@@ -337,7 +317,7 @@ fn higher(ways: Ways, one: Ties, two: Ties, end: usize) -> Ways
 fn cut_across(at: &[f64; 16], p: usize, q: usize, r: usize, s: usize) -> f64
     requires { ⌜ (p ≤ 15) × (q ≤ 15) × (r ≤ 15) × (s ≤ 15) ⌝ }
 {
-    nearest(at[r] - at[p]) + floor(at[p] - at[q]) + nearest(at[q] - at[s])
+    whole::nearest(at[r] - at[p]) + whole::floor(at[p] - at[q]) + whole::nearest(at[q] - at[s])
 }
 
 // Two roots are tied by d, which spares the first, or by one more, which spares the second.
@@ -428,13 +408,7 @@ fn best(m: &[[f64; 15]; 15], b: &[f64; 16], start: Ties, first: usize, end: usiz
 
 // Where the nodes of x, for which m x is b, best stand as whole numbers: one that stands for itself is cut
 // downward, and the others follow by their ties.
-pub fn whole(
-    m: &[[f64; 15]; 15],
-    b: &[f64; 16],
-    x: [f64; 16],
-    first: usize,
-    end: usize,
-) -> [f64; 16]
+pub fn cut(m: &[[f64; 15]; 15], b: &[f64; 16], x: [f64; 16], first: usize, end: usize) -> [f64; 16]
     requires { ⌜ end ≤ 15 ⌝ }
 {
     let none = Ties {
@@ -445,12 +419,12 @@ pub fn whole(
     let ties = best(m, b, none, first, end);
     let to = ties.to;
     let at = ties.at;
-    let mut cut = [0.0f64; 16];
+    let mut whole = [0.0f64; 16];
     let mut i: usize = 1;
     while i <= end {
         let r = root(&to, i);
-        cut[i] = floor(at[r]) + nearest(at[i] - at[r]);
+        whole[i] = whole::floor(at[r]) + whole::nearest(at[i] - at[r]);
         i += 1;
     }
-    cut
+    whole
 }

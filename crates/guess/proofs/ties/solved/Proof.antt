@@ -3,7 +3,7 @@ use borrow.Author.Needs.{needs}
 use Rattle.guess.proofs.ties.solved.Statement.{statement}
 use Rattle.guess.proofs.ties.solved.Tie as tie
 use Rattle.guess.proofs.matrix.solve_in.Reads as solve-in-reads
-use Rattle.guess.proofs.ties.nearest.Reads as nearest-reads
+use Rattle.guess.proofs.whole.nearest.Reads as nearest-reads
 use Rattle.guess.proofs.ties.root.Reads as root-reads
 use Rattle.guess.proofs.ties.strained.Reads as strained-reads
 use Rattle.guess.proofs.ties.tie_rows.Reads as tie-rows-reads

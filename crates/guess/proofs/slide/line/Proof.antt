@@ -1,16 +1,15 @@
-use Prim.Native.Nat.{_*_, _^_}
-use mathlib.Core.Path.{_≡_}
 use Rattle.circuit.specs.Board.{countOn}
-use Prim.Native.Nat.{_+_, _-_, _≤_, _<_}
+use mathlib.Core.Path.{_≡_}
+use Prim.Native.Nat.{ℕ, suc, _≤_, _<_, _-_}
 use borrow.Author.Needs.{needs}
-use Rattle.guess.proofs.slide.slope.Statement.{statement}
-use Rattle.guess.proofs.slide.slope.Tie as tie
+use Rattle.guess.proofs.slide.line.Statement.{statement}
+use Rattle.guess.proofs.slide.line.Tie as tie
 
 abbrev Inv-loop : tie.InvT-loop
-Inv-loop image board lines stored volts node count sum₀ j₀ sum j = (count ≡ countOn board) × (j ≤ count) × (count ≤ 32) × (0 < sum) × (sum ≤ 16 + j * 2 ^ 30)
+Inv-loop image board lines stored volts node count slope₀ at-zero₀ j₀ slope at-zero j = (count ≡ countOn board) × (count ≤ 32)
 
 abbrev μ-loop : tie.MeasureT-loop
-μ-loop image board lines stored volts node count sum₀ j₀ sum j = 32 - j
+μ-loop image board lines stored volts node count slope₀ at-zero₀ j₀ slope at-zero j = count - j
 
 count-requires : tie.Need-count-requires Inv-loop μ-loop
 count-requires c κs = search needs
@@ -18,14 +17,14 @@ count-requires c κs = search needs
 leak-requires : tie.Need-leak-requires Inv-loop μ-loop
 leak-requires c κs = search needs
 
+nearest-u64-to-f64-requires : tie.Need-nearest-u64-to-f64-requires Inv-loop μ-loop
+nearest-u64-to-f64-requires c κs = search needs
+
 loop-holds : tie.Need-loop-holds Inv-loop μ-loop
 loop-holds c = search needs
 
-slope-by-requires : tie.Need-slope-by-requires Inv-loop μ-loop
-slope-by-requires c κs = search needs
-
-add-sum : tie.Need-add-sum Inv-loop μ-loop
-add-sum c = search needs
+leaving-requires : tie.Need-leaving-requires Inv-loop μ-loop
+leaving-requires c κs = search needs
 
 add-j : tie.Need-add-j Inv-loop μ-loop
 add-j c = search needs
@@ -39,17 +38,17 @@ loop-again c = search needs
 returns : tie.Need-returns Inv-loop μ-loop
 returns c = search needs
 
-pub slope-spec : {M : Type 1} → statement M
-slope-spec =
+pub line-spec : {M : Type 1} → statement M
+line-spec =
     tie.close
     (tie.spec
     Inv-loop
     μ-loop
     count-requires
     leak-requires
+    nearest-u64-to-f64-requires
     loop-holds
-    slope-by-requires
-    add-sum
+    leaving-requires
     add-j
     loop-less
     loop-again

@@ -1,17 +1,13 @@
 use Prim.Native.Nat.{ℕ, suc, _≤_, _<_, _-_}
 use borrow.Author.Needs.{needs}
-use Rattle.guess.proofs.ties.whole.Statement.{statement}
-use Rattle.guess.proofs.ties.whole.Tie as tie
-use Rattle.guess.proofs.ties.best.Reads as best-reads
-use Rattle.guess.proofs.ties.floor.Reads as floor-reads
-use Rattle.guess.proofs.ties.nearest.Reads as nearest-reads
-use Rattle.guess.proofs.ties.root.Reads as root-reads
+use Rattle.guess.proofs.ties.cut.Statement.{statement}
+use Rattle.guess.proofs.ties.cut.Tie as tie
 
 abbrev Inv-loop : tie.InvT-loop
-Inv-loop m b first end to at cut₀ i₀ cut i = 0 ≤ i
+Inv-loop m b first end to at whole₀ i₀ whole i = 0 ≤ i
 
 abbrev μ-loop : tie.MeasureT-loop
-μ-loop m b first end to at cut₀ i₀ cut i = suc end - i
+μ-loop m b first end to at whole₀ i₀ whole i = suc end - i
 
 best-requires : tie.Need-best-requires Inv-loop μ-loop
 best-requires c κs = search needs
@@ -46,11 +42,11 @@ array-read-nearest-2 c = search needs
 nearest-requires : tie.Need-nearest-requires Inv-loop μ-loop
 nearest-requires c κs = search needs
 
-mul-cut : tie.Need-mul-cut Inv-loop μ-loop
-mul-cut c = search needs
+mul-whole : tie.Need-mul-whole Inv-loop μ-loop
+mul-whole c = search needs
 
-array-write-cut : tie.Need-array-write-cut Inv-loop μ-loop
-array-write-cut c = search needs
+array-write-whole : tie.Need-array-write-whole Inv-loop μ-loop
+array-write-whole c = search needs
 
 add-i : tie.Need-add-i Inv-loop μ-loop
 add-i c = search needs
@@ -64,8 +60,8 @@ loop-again c = search needs
 returns : tie.Need-returns Inv-loop μ-loop
 returns c = search needs
 
-pub whole-spec : {M : Type 1} → statement M
-whole-spec =
+pub cut-spec : {M : Type 1} → statement M
+cut-spec =
     tie.close
     (tie.spec
     Inv-loop
@@ -81,8 +77,8 @@ whole-spec =
     mul-nearest-2
     array-read-nearest-2
     nearest-requires
-    mul-cut
-    array-write-cut
+    mul-whole
+    array-write-whole
     add-i
     loop-less
     loop-again
