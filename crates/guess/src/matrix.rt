@@ -75,17 +75,16 @@ fn eliminate(a: &mut [[f64; 15]; 15], x: &mut [f64; 16], first: usize, end: usiz
     true
 }
 
-// What is left of place k + 1 once the unknowns above it are taken off.
-fn rest_of(a: &[[f64; 15]; 15], x: &[f64; 16], k: usize, end: usize) -> f64
-    requires { ⌜ (k < 15) × (end ≤ 15) ⌝ }
+// Unknown k + 1 is known, and is taken off the places before it.
+fn take_back(a: &[[f64; 15]; 15], x: &mut [f64; 16], k: usize, first: usize)
+    requires { ⌜ k < 15 ⌝ }
 {
-    let mut rest = x[k + 1];
-    let mut j = k + 1;
-    while j < end {
-        rest = rest - a[k][j] * x[j + 1];
-        j += 1;
+    let known = x[k + 1];
+    let mut i = first;
+    while i < k {
+        x[i + 1] = x[i + 1] - a[i][k] * known;
+        i += 1;
     }
-    rest
 }
 
 // The unknowns, from the last to the first.
@@ -95,7 +94,8 @@ fn substitute(a: &[[f64; 15]; 15], x: &mut [f64; 16], first: usize, end: usize)
     let mut k = end;
     while first < k {
         k -= 1;
-        x[k + 1] = rest_of(a, x, k, end) * a[k][k];
+        x[k + 1] = x[k + 1] * a[k][k];
+        take_back(a, x, k, first);
     }
 }
 

@@ -28,7 +28,7 @@ pub struct Ways {
     pub height: f64,
 }
 
-// Two nodes that a link joins, and how stiff it is: p is 0 for none.
+// Two nodes whose sets a link joins, and how stiff it is: p is 0 for none.
 pub struct Link {
     pub p: usize,
     pub q: usize,
@@ -66,19 +66,6 @@ fn root(to: &[usize; 16], i: usize) -> usize
     r
 }
 
-// Every node's.
-fn roots(to: &[usize; 16], end: usize) -> [usize; 16]
-    requires { ⌜ end ≤ 15 ⌝ }
-{
-    let mut r = [0usize; 16];
-    let mut i: usize = 1;
-    while i <= end {
-        r[i] = root(to, i);
-        i += 1;
-    }
-    r
-}
-
 // The rows of tied nodes give way to their ties.
 fn tie_rows(
     a: &mut [[f64; 15]; 15],
@@ -104,24 +91,29 @@ fn tie_rows(
     }
 }
 
-// The net current of node k + 1 by the straight lines.
-fn net(
-    m: &[[f64; 15]; 15],
-    b: &[f64; 16],
-    at: &[f64; 16],
-    k: usize,
-    first: usize,
-    end: usize,
-) -> f64
-    requires { ⌜ (k < 15) × (end ≤ 15) ⌝ }
+// What node j + 1 at this voltage adds to the currents of all.
+fn add_row(m: &[[f64; 15]; 15], v: f64, j: usize, first: usize, end: usize, sums: &mut [f64; 16])
+    requires { ⌜ (j < 15) × (end ≤ 15) ⌝ }
 {
-    let mut sum = -b[k + 1];
+    let mut k = first;
+    while k < end {
+        sums[k + 1] = sums[k + 1] + m[j][k] * v;
+        k += 1;
+    }
+}
+
+// m times the voltages. The matrix is symmetric, so it is added up by rows: no sum waits for its own last
+// step.
+fn currents(m: &[[f64; 15]; 15], at: &[f64; 16], first: usize, end: usize) -> [f64; 16]
+    requires { ⌜ end ≤ 15 ⌝ }
+{
+    let mut sums = [0.0f64; 16];
     let mut j = first;
     while j < end {
-        sum = sum + m[k][j] * at[j + 1];
+        add_row(m, at[j + 1], j, first, end, &mut sums);
         j += 1;
     }
-    sum
+    sums
 }
 
 // A tied node that has no current to spare after all, 0 for none.
@@ -136,10 +128,11 @@ fn strained(
     requires { ⌜ end ≤ 15 ⌝ }
     ensures { λ r. ⌜ r ≤ 15 ⌝ }
 {
+    let sums = currents(m, at, first, end);
     let mut k = first;
     while k < end {
         if 0 < to[k + 1] {
-            if m[k][k] * whole::ROUNDED < net(m, b, at, k, first, end) {
+            if m[k][k] * whole::ROUNDED < sums[k + 1] - b[k + 1] {
                 return k + 1;
             }
         }
@@ -178,28 +171,58 @@ fn solved(m: &[[f64; 15]; 15], b: &[f64; 16], ties: Ties, first: usize, end: usi
     Ties { to, by, at }
 }
 
-// How much conductance leads out of each set of tied nodes, by its root.
-fn weights(m: &[[f64; 15]; 15], roots: &[usize; 16], first: usize, end: usize) -> [f64; 16]
-    requires { ⌜ end ≤ 15 ⌝ }
+// Row s is added to row r, and column s to column r.
+fn add_rows(c: &mut [[f64; 15]; 15], r: usize, s: usize, end: usize)
+    requires { ⌜ (r < 15) × (s < 15) × (end ≤ 15) ⌝ }
 {
-    let mut w = [0.0f64; 16];
-    let mut k = first;
-    while k < end {
-        let r = place(roots[k + 1]);
-        let mut j = first;
-        while j < end {
-            if roots[j + 1] == roots[k + 1] {
-                w[r] = w[r] + m[k][j];
-            }
-            j += 1;
-        }
-        k += 1;
+    let mut j: usize = 0;
+    while j < end {
+        c[r][j] = c[r][j] + c[s][j];
+        c[s][j] = 0.0;
+        j += 1;
     }
-    w
 }
 
-// How stiff a link of conductance g between these weights is: how far its lighter side has to move to
-// take up what one microvolt across the link carries.
+fn add_columns(c: &mut [[f64; 15]; 15], r: usize, s: usize, end: usize)
+    requires { ⌜ (r < 15) × (s < 15) × (end ≤ 15) ⌝ }
+{
+    let mut i: usize = 0;
+    while i < end {
+        c[i][r] = c[i][r] + c[i][s];
+        c[i][s] = 0.0;
+        i += 1;
+    }
+}
+
+// The sets of the nodes r and s become one, under r. Between sets the matrix has their links, and on its
+// diagonal what leads out of a set.
+fn merge(c: &mut [[f64; 15]; 15], r: usize, s: usize, end: usize)
+    requires { ⌜ (r ≤ 15) × (s ≤ 15) × (end ≤ 15) ⌝ }
+{
+    if 0 < r && 0 < s {
+        add_rows(c, r - 1, s - 1, end);
+        add_columns(c, r - 1, s - 1, end);
+    }
+}
+
+// The matrix of the sets that these ties make, each under its root.
+fn sets(m: &[[f64; 15]; 15], to: &[usize; 16], end: usize) -> [[f64; 15]; 15]
+    requires { ⌜ end ≤ 15 ⌝ }
+{
+    let mut c = *m;
+    let mut i: usize = 1;
+    while i <= end {
+        let r = root(to, i);
+        if r != i {
+            merge(&mut c, r, i, end);
+        }
+        i += 1;
+    }
+    c
+}
+
+// How stiff a link of conductance g between sets is that have these conductances out of them: how far the
+// lighter one has to move to take up what one microvolt across the link carries.
 fn stiffness(g: f64, one: f64, other: f64) -> f64 {
     let light = if one < other { one - g } else { other - g };
     if light < 1.0 {
@@ -208,32 +231,21 @@ fn stiffness(g: f64, one: f64, other: f64) -> f64 {
     g / light
 }
 
-// The stiffest link of node k + 1 to one after it, if it is stiffer than the one that is known.
-fn stiffer(
-    m: &[[f64; 15]; 15],
-    roots: &[usize; 16],
-    w: &[f64; 16],
-    k: usize,
-    end: usize,
-    known: Link,
-) -> Link
+// The stiffest link of set k + 1 to one after it, if it is stiffer than the one that is known.
+fn stiffer(c: &[[f64; 15]; 15], k: usize, end: usize, known: Link) -> Link
     requires { ⌜ (k < 15) × (end ≤ 15) ⌝ }
 {
     let mut best = known;
-    let r = place(roots[k + 1]);
     let mut j = k + 1;
     while j < end {
-        let s = place(roots[j + 1]);
-        if m[k][j] < 0.0 {
-            if r != s {
-                let stiff = stiffness(-m[k][j], w[r], w[s]);
-                if best.stiffness < stiff {
-                    best = Link {
-                        p: k + 1,
-                        q: j + 1,
-                        stiffness: stiff,
-                    };
-                }
+        if c[k][j] < 0.0 {
+            let stiff = stiffness(-c[k][j], c[k][k], c[j][j]);
+            if best.stiffness < stiff {
+                best = Link {
+                    p: k + 1,
+                    q: j + 1,
+                    stiffness: stiff,
+                };
             }
         }
         j += 1;
@@ -241,11 +253,10 @@ fn stiffer(
     best
 }
 
-// The stiffest link that is not within a set of tied nodes.
-fn stiffest(m: &[[f64; 15]; 15], roots: &[usize; 16], first: usize, end: usize) -> Link
+// The stiffest link between sets.
+fn stiffest(c: &[[f64; 15]; 15], first: usize, end: usize) -> Link
     requires { ⌜ end ≤ 15 ⌝ }
 {
-    let w = weights(m, roots, first, end);
     let mut best = Link {
         p: 0,
         q: 0,
@@ -253,7 +264,7 @@ fn stiffest(m: &[[f64; 15]; 15], roots: &[usize; 16], first: usize, end: usize) 
     };
     let mut k = first;
     while k < end {
-        best = stiffer(m, roots, &w, k, end, best);
+        best = stiffer(c, k, end, best);
         k += 1;
     }
     best
@@ -313,13 +324,6 @@ fn higher(ways: Ways, one: Ties, two: Ties, end: usize) -> Ways
     taken(ways, one, two, two_high)
 }
 
-// By what the roots r and s differ if the difference of p and q, which are tied to them, is cut downward.
-fn cut_across(at: &[f64; 16], p: usize, q: usize, r: usize, s: usize) -> f64
-    requires { ⌜ (p ≤ 15) × (q ≤ 15) × (r ≤ 15) × (s ≤ 15) ⌝ }
-{
-    whole::nearest(at[r] - at[p]) + whole::floor(at[p] - at[q]) + whole::nearest(at[q] - at[s])
-}
-
 // Two roots are tied by d, which spares the first, or by one more, which spares the second.
 fn either(
     m: &[[f64; 15]; 15],
@@ -339,26 +343,25 @@ fn either(
     higher(ways, one, two, end)
 }
 
-// A link is tied, by the whole number below its difference or by the one above. The roots of its ends are
-// tied in their stead.
+// The sets of p and q are tied, by the whole number below the difference of their roots or by the one
+// above.
 fn tie(
     m: &[[f64; 15]; 15],
     b: &[f64; 16],
-    roots: &[usize; 16],
     ways: Ways,
-    link: Link,
+    p: usize,
+    q: usize,
     first: usize,
     end: usize,
 ) -> Ways
-    requires { ⌜ end ≤ 15 ⌝ }
+    requires { ⌜ (p ≤ 15) × (q ≤ 15) × (end ≤ 15) ⌝ }
 {
     let ties = ways.taken;
+    let to = ties.to;
     let at = ties.at;
-    let p = place(link.p);
-    let q = place(link.q);
-    let r = place(roots[p]);
-    let s = place(roots[q]);
-    let d = cut_across(&at, p, q, r, s);
+    let r = root(&to, p);
+    let s = root(&to, q);
+    let d = whole::floor(at[r] - at[s]);
     either(m, b, ways, r, s, d, first, end)
 }
 
@@ -371,16 +374,18 @@ fn grown(m: &[[f64; 15]; 15], b: &[f64; 16], start: Ties, first: usize, end: usi
         other: start,
         height: LOWEST,
     };
+    let to = start.to;
+    let mut c = sets(m, &to, end);
     let mut turn: usize = 0;
     while turn < 15 {
-        let ties = ways.taken;
-        let to = ties.to;
-        let r = roots(&to, end);
-        let link = stiffest(m, &r, first, end);
-        if link.p == 0 {
+        let link = stiffest(&c, first, end);
+        let p = place(link.p);
+        let q = place(link.q);
+        if p == 0 {
             return ways;
         }
-        ways = tie(m, b, &r, ways, link, first, end);
+        ways = tie(m, b, ways, p, q, first, end);
+        merge(&mut c, p, q, end);
         turn += 1;
     }
     ways

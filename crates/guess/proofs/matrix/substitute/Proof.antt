@@ -2,7 +2,6 @@ use Prim.Native.Nat.{ℕ, suc, _≤_, _<_, _-_}
 use borrow.Author.Needs.{needs}
 use Rattle.guess.proofs.matrix.substitute.Statement.{statement}
 use Rattle.guess.proofs.matrix.substitute.Tie as tie
-use Rattle.guess.proofs.matrix.rest_of.Reads as rest-of-reads
 
 abbrev Inv-loop : tie.InvT-loop
 Inv-loop a x₀ first end k₀ x k = k ≤ end
@@ -16,14 +15,20 @@ loop-holds c = search needs
 sub-k : tie.Need-sub-k Inv-loop μ-loop
 sub-k c = search needs
 
-rest-of-requires : tie.Need-rest-of-requires Inv-loop μ-loop
-rest-of-requires c κs = search needs
+add-x : tie.Need-add-x Inv-loop μ-loop
+add-x c = search needs
 
 mul-x : tie.Need-mul-x Inv-loop μ-loop
 mul-x c = search needs
 
+element-copy-out-x : tie.Need-element-copy-out-x Inv-loop μ-loop
+element-copy-out-x c = search needs
+
 mul-x-2 : tie.Need-mul-x-2 Inv-loop μ-loop
 mul-x-2 c = search needs
+
+mul-x-3 : tie.Need-mul-x-3 Inv-loop μ-loop
+mul-x-3 c = search needs
 
 index-1-x : tie.Need-index-1-x Inv-loop μ-loop
 index-1-x c = search needs
@@ -31,14 +36,17 @@ index-1-x c = search needs
 index-2-x : tie.Need-index-2-x Inv-loop μ-loop
 index-2-x c = search needs
 
-add-x : tie.Need-add-x Inv-loop μ-loop
-add-x c = search needs
+add-x-2 : tie.Need-add-x-2 Inv-loop μ-loop
+add-x-2 c = search needs
 
-mul-x-3 : tie.Need-mul-x-3 Inv-loop μ-loop
-mul-x-3 c = search needs
+mul-x-4 : tie.Need-mul-x-4 Inv-loop μ-loop
+mul-x-4 c = search needs
 
 element-write-x : tie.Need-element-write-x Inv-loop μ-loop
 element-write-x c = search needs
+
+take-back-requires : tie.Need-take-back-requires Inv-loop μ-loop
+take-back-requires c κs = search needs
 
 loop-less : tie.Need-loop-less Inv-loop μ-loop
 loop-less c = search needs
@@ -57,14 +65,17 @@ substitute-spec =
     μ-loop
     loop-holds
     sub-k
-    rest-of-requires
+    add-x
     mul-x
+    element-copy-out-x
     mul-x-2
+    mul-x-3
     index-1-x
     index-2-x
-    add-x
-    mul-x-3
+    add-x-2
+    mul-x-4
     element-write-x
+    take-back-requires
     loop-less
     loop-again
     returns)

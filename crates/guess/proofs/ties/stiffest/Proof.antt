@@ -2,17 +2,12 @@ use Prim.Native.Nat.{ℕ, suc, _≤_, _<_, _-_}
 use borrow.Author.Needs.{needs}
 use Rattle.guess.proofs.ties.stiffest.Statement.{statement}
 use Rattle.guess.proofs.ties.stiffest.Tie as tie
-use Rattle.guess.proofs.ties.stiffer.Reads as stiffer-reads
-use Rattle.guess.proofs.ties.weights.Reads as weights-reads
 
 abbrev Inv-loop : tie.InvT-loop
-Inv-loop m roots first end w best₀ k₀ best k = 0 ≤ k
+Inv-loop c first end best₀ k₀ best k = 0 ≤ k
 
 abbrev μ-loop : tie.MeasureT-loop
-μ-loop m roots first end w best₀ k₀ best k = end - k
-
-weights-requires : tie.Need-weights-requires Inv-loop μ-loop
-weights-requires c κs = search needs
+μ-loop c first end best₀ k₀ best k = end - k
 
 loop-holds : tie.Need-loop-holds Inv-loop μ-loop
 loop-holds c = search needs
@@ -35,13 +30,4 @@ returns c = search needs
 pub stiffest-spec : {M : Type 1} → statement M
 stiffest-spec =
     tie.close
-    (tie.spec
-    Inv-loop
-    μ-loop
-    weights-requires
-    loop-holds
-    stiffer-requires
-    add-k
-    loop-less
-    loop-again
-    returns)
+    (tie.spec Inv-loop μ-loop loop-holds stiffer-requires add-k loop-less loop-again returns)

@@ -1,37 +1,45 @@
 use borrow.Author.Needs.{needs}
 use Rattle.guess.proofs.ties.tie.Statement.{statement}
 use Rattle.guess.proofs.ties.tie.Tie as tie
+use Rattle.guess.proofs.ties.tie.Reads as reads
+use Rattle.guess.proofs.ties.tie.Lts as lts
+use Rattle.guess.proofs.ties.either.Reads as either-reads
+use Rattle.guess.proofs.ties.root.Reads as root-reads
+use Rattle.guess.proofs.whole.floor.Reads as floor-reads
 
-place-requires : tie.Need-place-requires
-place-requires c κs = search needs
+-- src/ties.rt:362:9
+root-requires : tie.Need-root-requires
+root-requires c κs = search needs
 
-place-requires-2 : tie.Need-place-requires-2
-place-requires-2 c κs = search needs
+-- src/ties.rt:363:9
+root-requires-2 : tie.Need-root-requires-2
+root-requires-2 c κs = search needs
 
-mul-place : tie.Need-mul-place
-mul-place c = search needs
+-- src/ties.rt:364:26
+mul-floor : tie.Need-mul-floor
+mul-floor c = search needs
 
-element-copy-out-place : tie.Need-element-copy-out-place
-element-copy-out-place c = search needs
+-- src/ties.rt:364:26
+array-read-floor : tie.Need-array-read-floor
+array-read-floor c = search needs
 
-place-requires-3 : tie.Need-place-requires-3
-place-requires-3 c κs = search needs
+-- src/ties.rt:364:34
+mul-floor-2 : tie.Need-mul-floor-2
+mul-floor-2 c = search needs
 
-mul-place-2 : tie.Need-mul-place-2
-mul-place-2 c = search needs
+-- src/ties.rt:364:34
+array-read-floor-2 : tie.Need-array-read-floor-2
+array-read-floor-2 c = search needs
 
-element-copy-out-place-2 : tie.Need-element-copy-out-place-2
-element-copy-out-place-2 c = search needs
+-- src/ties.rt:364:9
+floor-requires : tie.Need-floor-requires
+floor-requires c κs = search needs
 
-place-requires-4 : tie.Need-place-requires-4
-place-requires-4 c κs = search needs
-
-cut-across-requires : tie.Need-cut-across-requires
-cut-across-requires c κs = search needs
-
+-- src/ties.rt:365:5
 either-requires : tie.Need-either-requires
 either-requires c κs = search needs
 
+-- src/ties.rt:348:1
 returns : tie.Need-returns
 returns c = search needs
 
@@ -39,14 +47,12 @@ pub tie-spec : {M : Type 1} → statement M
 tie-spec =
     tie.close
     (tie.spec
-    place-requires
-    place-requires-2
-    mul-place
-    element-copy-out-place
-    place-requires-3
-    mul-place-2
-    element-copy-out-place-2
-    place-requires-4
-    cut-across-requires
+    root-requires
+    root-requires-2
+    mul-floor
+    array-read-floor
+    mul-floor-2
+    array-read-floor-2
+    floor-requires
     either-requires
     returns)
