@@ -1,11 +1,11 @@
 // Newton's way to voltages, in f64: the circuit is taken as straight lines where it stands, those
 // are solved, and so on from there.
-use crate::matrix;
 use crate::places;
 use crate::straight;
-use crate::ties;
-use crate::whole;
 use circuit::board;
+use linear::matrix;
+use linear::ties;
+use linear::whole;
 use units::voltage::Nearest;
 use units::voltage::Voltage;
 ghost use Prim.Native.Nat.{_≤_, _<_};
