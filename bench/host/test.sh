@@ -8,4 +8,4 @@ block=target/staticlib/libblock.a
 cc -O2 -Wall -Wextra -Iinclude bench/host/render.c $block -o target/bench/krtovalin
 python3 bench/cases/cases.py check target/bench/krtovalin
 cc -O1 -g -fsanitize=address -Wall -Wextra -Iinclude bench/host/compare.c $block target/bench/libsecond.a -lpthread -ldl -lm -o target/bench/compare
-target/bench/compare "${1:-20000}" bench/cases/data/*.image
+target/bench/compare "${1:-20000}" crates/bench_render/data/*.image
