@@ -3,9 +3,14 @@
 set -e
 cd "$(dirname "$0")/../.."
 bench/build.sh
-rt staticlib block
-block=target/staticlib/libblock.a
+if [ "$(uname -m)" = x86_64 ]; then
+    rt staticlib block
+    block=target/staticlib/libblock.a
+else
+    block=target/bench/block.o
+    bench/host/native.sh block $block
+fi
 cc -O2 -Wall -Wextra -Iinclude bench/host/render.c $block -o target/bench/krtovalin
 python3 bench/cases/cases.py check target/bench/krtovalin
-cc -O1 -g -fsanitize=address -Wall -Wextra -Iinclude bench/host/compare.c $block target/bench/libsecond.a -lpthread -ldl -lm -o target/bench/compare
+cc -O2 -g -fsanitize=address -Wall -Wextra -Iinclude bench/host/compare.c $block target/bench/libsecond.a -lpthread -ldl -lm -o target/bench/compare
 target/bench/compare "${1:-20000}" crates/bench_render/data/*.image
