@@ -9,22 +9,26 @@ import subprocess
 import sys
 
 CASES = pathlib.Path(__file__).parent.parent / "cases"
+sys.path.insert(0, str(CASES))
+import cases
+
 STIFF = {"stiff_link", "tone_treble_0", "tone_treble_1", "tone_volume_1", "tone_all_1"}
 LIMIT = 6000
 
 
-def distance(program, name):
-    files = [CASES / "data" / f"{name}.{kind}" for kind in ("image", "drives")]
+def distance(program, name, lines):
+    files = [cases.DATA / f"{name}.{kind}" for kind in ("image", "drives")]
     run = subprocess.run([program, *files], stdout=subprocess.PIPE, text=True, check=True)
-    whole = (CASES / "data" / f"{name}.lines").read_text().splitlines()[:-1]
+    whole = lines.decode().splitlines()[:-1]
     return max(abs(float(one) - int(other)) for one, other in zip(run.stdout.split(), whole, strict=True))
 
 
 def main(program):
-    lines = (CASES / "circuits.txt").read_text().splitlines()
+    circuits = (CASES / "circuits.txt").read_text().splitlines()
+    lines = cases.expected()
     failed = False
-    for name in (line.split()[1] for line in lines if line.startswith("case ")):
-        apart = distance(program, name)
+    for name in (line.split()[1] for line in circuits if line.startswith("case ")):
+        apart = distance(program, name, lines[name])
         judged = name not in STIFF
         failed |= judged and apart > LIMIT
         print(f"{name:24} {apart:12.1f} microvolts{'' if judged else '   stiff'}")

@@ -3,9 +3,11 @@
 set -e
 cd "$(dirname "$0")/../.."
 bench/build.sh
-rt staticlib block
-block=target/staticlib/libblock.a
+bench/native/module.sh target/bench/block.ll
+bench/native/object.sh target/bench/block.ll target/bench/block.o
+block=target/bench/block.o
 cc -O2 -Wall -Wextra -Iinclude bench/host/render.c $block -o target/bench/krtovalin
 python3 bench/cases/cases.py check target/bench/krtovalin
-cc -O1 -g -fsanitize=address -Wall -Wextra -Iinclude bench/host/compare.c $block target/bench/libsecond.a -lpthread -ldl -lm -o target/bench/compare
-target/bench/compare "${1:-20000}" bench/cases/data/*.image
+cc -O2 -g -fsanitize=address -Wall -Wextra -Iinclude bench/host/compare.c $block target/bench/libsecond.a -lpthread -ldl -lm -o target/bench/compare
+# the block allocates nothing, and the search for leaks takes longer than thousands of calls
+ASAN_OPTIONS=detect_leaks=0 target/bench/compare "${1:-20000}" crates/bench_render/data/*.image

@@ -1,7 +1,6 @@
 // What comes of an image, written out.
 use super::build;
 use super::build::Image;
-use image::Answer;
 use image::Circuit;
 use libc::STDOUT_FILENO;
 use units::signed;
@@ -32,18 +31,6 @@ fn one_signed(z: i64) {
     io::print_decimal(STDOUT_FILENO, signed::size(z));
 }
 
-fn number_of(a: Answer) -> u64 {
-    match a {
-        Answer::Accepted => 0,
-        Answer::Length => 1,
-        Answer::Trailer => 2,
-        Answer::Sizes => 3,
-        Answer::Curves => 4,
-        Answer::Elements => 5,
-        Answer::Conductances => 6,
-    }
-}
-
 // Document 01's number of the first n bytes of s.
 fn number_in(s: &[u8], n: usize) -> u64 {
     if s.len() < n {
@@ -51,7 +38,7 @@ fn number_in(s: &[u8], n: usize) -> u64 {
     }
     let o = image::read(&s[0..n]);
     let a = o.answer;
-    number_of(a)
+    image::number_of(a)
 }
 
 // The array as a slice.

@@ -4,14 +4,12 @@ use crate::run;
 use crate::state;
 use circuit::lines;
 use circuit::opening;
-use image::Answer;
 use image::Circuit;
 ghost use mathlib.Core.Path.{_≡_};
 ghost use mathlib.Core.List.{List};
 ghost use Prim.Native.Nat.{ℕ, _%_};
 ghost use lib.IntN.{ℤ};
 ghost use lib.ListN.{length};
-ghost use Rattle.image.specs.Opened.{numberOf};
 ghost use Rattle.block.specs.Call.{Packed};
 ghost use Rattle.block.specs.Playing.{Opens};
 
@@ -19,21 +17,6 @@ ghost use Rattle.block.specs.Playing.{Opens};
 const STATE_REFUSED: u64 = 458752;
 
 const LENGTHS_REFUSED: u64 = 524288;
-
-// Document 01's number of an answer.
-pub fn number_of(answer: Answer) -> u64
-    ensures { λ r. ⌜ r ≡ numberOf answer ⌝ }
-{
-    match answer {
-        Answer::Accepted => 0,
-        Answer::Length => 1,
-        Answer::Trailer => 2,
-        Answer::Sizes => 3,
-        Answer::Curves => 4,
-        Answer::Elements => 5,
-        Answer::Conductances => 6,
-    }
-}
 
 // A block of an accepted image, whose circuit is c.
 fn play_circuit(
@@ -79,7 +62,7 @@ pub fn play(image: &[u8], n: u64, drives: &[u8], x: &mut [i64; 32], outputs: &mu
 {
     let opened = image::read(image);
     let answer = opened.answer;
-    let number = number_of(answer);
+    let number = image::number_of(answer);
     if number != 0 {
         return number * 65536;
     }
@@ -92,7 +75,7 @@ pub fn misfit(image: &[u8]) -> u64
 {
     let opened = image::read(image);
     let answer = opened.answer;
-    let number = number_of(answer);
+    let number = image::number_of(answer);
     if number != 0 {
         return number * 65536;
     }

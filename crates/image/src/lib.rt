@@ -16,4 +16,5 @@ pub use curve::curve_at;
 pub use curve::slope;
 pub use reader::Answer;
 pub use reader::Opened;
+pub use reader::number_of;
 pub use reader::read;

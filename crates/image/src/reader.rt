@@ -10,7 +10,7 @@ ghost use mathlib.Core.Path.{_≡_};
 ghost use Prim.Native.Nat.{_≤_, _<_};
 ghost use lib.ListN.{length};
 ghost use Rattle.image.specs.Format.{trailerSize, lengthFits, sizesFit};
-ghost use Rattle.image.specs.Opened.{circuitIn, noCircuit, Read};
+ghost use Rattle.image.specs.Opened.{numberOf, circuitIn, noCircuit, Read};
 ghost use Rattle.image.specs.Asked.{Laid};
 ghost use Rattle.image.specs.Meaning.{leakOf};
 
@@ -29,6 +29,21 @@ pub enum Answer {
 pub struct Opened {
     pub answer: Answer,
     pub circuit: Circuit,
+}
+
+// Document 01's number of an answer.
+pub fn number_of(answer: Answer) -> u64
+    ensures { λ r. ⌜ r ≡ numberOf answer ⌝ }
+{
+    match answer {
+        Answer::Accepted => 0,
+        Answer::Length => 1,
+        Answer::Trailer => 2,
+        Answer::Sizes => 3,
+        Answer::Curves => 4,
+        Answer::Elements => 5,
+        Answer::Conductances => 6,
+    }
 }
 
 fn length_fits(n: usize) -> bool

@@ -1,0 +1,25 @@
+// How far to trust a circuit's voltages: the arguments name images. A line for each free node has its
+// number, held conductance, steepest sum and least B for e = 0; an image's last line has the greatest B.
+mod report;
+
+use console::file;
+use libc::STDOUT_FILENO;
+
+// The report on the image that argument i names.
+fn report_on(i: usize) {
+    // longer than any image that is accepted
+    let mut image = io::buffer();
+    let n = file::contents(file::open_argument(i), &mut image);
+    let mut text = io::buffer();
+    let end = report::put(&mut text, &image[..n]);
+    io::write_all(STDOUT_FILENO, &text[..end]);
+}
+
+fn main() {
+    let count = os::arg_count();
+    let mut i: usize = 1;
+    while i < count {
+        report_on(i);
+        i += 1;
+    }
+}

@@ -1,0 +1,2 @@
+pub mod OneRendering
+pub mod RenderingLaws
