@@ -91,7 +91,7 @@ fn largest(board: &[u64; 164], nets: [f64; 16]) -> f64
 // the ties find best.
 fn cut(
     board: &[u64; 164],
-    m: [[f64; 15]; 15],
+    m: &[[f64; 15]; 15],
     nets: [f64; 16],
     spent: bool,
     x: &mut [f64; 16],
@@ -100,14 +100,7 @@ fn cut(
     requires { ⌜ (nodesOn (now board) ≤ 15) × (drivenOn (now board) ≤ nodesOn (now board)) × Standing (now board) (now volts) ⌝ }
     ensures { λ r. ⌜ Standing (now (board .entry)) (now (volts .exit)) ⌝ }
 {
-    let driven = board::driven(board);
-    let nodes = board::nodes(board);
-    let solution = matrix::solve(m, nets, driven, nodes);
-    if !solution.found {
-        return Ending::Broken;
-    }
-    let left_over = solution.x;
-    let whole = ties::cut(&m, &nets, left_over, driven, nodes);
+    let whole = ties::cut(m, &nets, board::driven(board), board::nodes(board));
     match step(board, whole, x, volts) {
         Round::Lost => Ending::Broken,
         Round::Moved(_) => {
@@ -160,7 +153,7 @@ fn search(
         rounds += 1;
     }
     let nets = straight::entering(board, tangents, &x);
-    cut(board, m, nets, changed & (0.5 < difference), &mut x, volts)
+    cut(board, &m, nets, changed & (0.5 < difference), &mut x, volts)
 }
 
 // Rounded proposals for the free nodes in `guess`; those of `volts` if the search broke.

@@ -411,17 +411,17 @@ fn best(m: &[[f64; 15]; 15], b: &[f64; 16], start: Ties, first: usize, end: usiz
     ties
 }
 
-// Where the nodes of x, for which m x is b, best stand as whole numbers: one that stands for itself is cut
+// Where the nodes x for which m x is b best stand as whole numbers: one that stands for itself is cut
 // downward, and the others follow by their ties.
-pub fn cut(m: &[[f64; 15]; 15], b: &[f64; 16], x: [f64; 16], first: usize, end: usize) -> [f64; 16]
+pub fn cut(m: &[[f64; 15]; 15], b: &[f64; 16], first: usize, end: usize) -> [f64; 16]
     requires { ⌜ end ≤ 15 ⌝ }
 {
     let none = Ties {
         to: [0usize; 16],
         by: [0.0f64; 16],
-        at: x,
+        at: [0.0f64; 16],
     };
-    let ties = best(m, b, none, first, end);
+    let ties = best(m, b, solved(m, b, none, first, end), first, end);
     let to = ties.to;
     let at = ties.at;
     let mut whole = [0.0f64; 16];

@@ -73,7 +73,7 @@ entering-requires-2 : tie.Need-entering-requires-2 Inv-loop μ-loop
 entering-requires-2 c κs = c .before .before .before .before .before .before .before .before .before .before .before .before .pre .1
 
 cut-requires : tie.Need-cut-requires Inv-loop μ-loop
-cut-requires c κs = (c .before .before .before .before .before .before .before .before .before .before .before .before .before .before .before .pre .1 .few-nodes, c .before .before .before .before .before .before .before .before .before .before .before .before .before .before .before .pre .1 .few-driven, c .before .before .before .before .before .loop .inv .2)
+cut-requires c κs = let s = c .before .before .before .before .before .before .before .before .before .before .before .before .before .before .before .before in (s .pre .1 .few-nodes, s .pre .1 .few-driven, c .before .before .before .before .before .before .loop .inv .2)
 
 returns-3 : tie.Need-returns-3 Inv-loop μ-loop
 returns-3 c = search needs

@@ -9,6 +9,9 @@ Inv-loop m b first end to at whole₀ i₀ whole i = 0 ≤ i
 abbrev μ-loop : tie.MeasureT-loop
 μ-loop m b first end to at whole₀ i₀ whole i = suc end - i
 
+solved-requires : tie.Need-solved-requires Inv-loop μ-loop
+solved-requires c κs = search needs
+
 best-requires : tie.Need-best-requires Inv-loop μ-loop
 best-requires c κs = search needs
 
@@ -66,6 +69,7 @@ cut-spec =
     (tie.spec
     Inv-loop
     μ-loop
+    solved-requires
     best-requires
     loop-holds
     root-requires
