@@ -13,10 +13,8 @@ sys.path.insert(0, str(HERE.parent / "cases"))
 
 import describe  # noqa: E402
 
-# One block, so that what its first sample costs, which has no sample before it to begin at, is one in 4,096. Where a sample takes
-# milliseconds, fewer will do.
+# One block, so that what its first sample costs, which has no sample before it to begin at, is one in 4,096.
 SAMPLES = 4096
-FEWER = {"thirteen_diodes": 256}
 # Whatever a circuit's own rate is, its times are held against this one.
 RATE = 48000
 SINES = [line.split() for line in ("quiet", "drive 1 sine 4000000 440", "drive 1 sine 4000000 1730")]
@@ -25,7 +23,7 @@ SINES = [line.split() for line in ("quiet", "drive 1 sine 4000000 440", "drive 1
 def builds(path):
     """The file's circuits under the table's drive, by name."""
     known = describe.read(HERE.parent / "cases" / "circuits.txt")
-    return {name: describe.Build([*lines, *SINES, ["samples", FEWER.get(name, SAMPLES)]])
+    return {name: describe.Build([*lines, *SINES, ["samples", SAMPLES]])
             for name, lines in describe.read(path, known).items()}
 
 
@@ -35,11 +33,17 @@ def said(*words):
     return [float(word) for word in run.stdout.split() if word[0].isdigit()]
 
 
-def cells(name, build, runs):
+def written(build):
+    """The files of a circuit's image and drives."""
     files = []
     for kind in "image", "drives":
         files.append(BENCH / f"row.{kind}")
         files[-1].write_bytes(getattr(build, kind))
+    return files
+
+
+def cells(name, build, runs):
+    files = written(build)
     free = build.fields["nodes"] - build.fields["drives"]
     mean, greatest = said(BENCH / "count", *files)
     yield from (name.replace("_", " "), f"{free}", f"{len(build.elements)}", f"{build.samples:,}", f"{mean:,.1f}", f"{greatest:,.0f}")
