@@ -7,12 +7,9 @@
 #include <stdio.h>
 #include <stdlib.h>
 #include <string.h>
-#include <time.h>
 
-#include "krtovalin.h"
-
-#define LONGEST 1360
-#define DRIVEN_MOST 15
+#include "../host/room.h"
+#include "../timing.h"
 
 uint64_t bench_evaluations;
 void bench_sample(void);
@@ -26,26 +23,12 @@ void bench_sample(void)
     marks[begun++] = bench_evaluations;
 }
 
-static uint8_t image[LONGEST];
-static uint8_t drives[KRTOVALIN_SAMPLES * DRIVEN_MOST * 4];
-static uint8_t outputs[KRTOVALIN_SAMPLES * 4];
 static size_t image_length, drives_length, samples;
 
-static size_t contents(const char *name, uint8_t *bytes, size_t room)
-{
-    FILE *file = fopen(name, "rb");
-    if (!file) {
-        perror(name);
-        exit(1);
-    }
-    size_t length = fread(bytes, 1, room, file);
-    fclose(file);
-    return length;
-}
-
 /* The block from a fresh state. A refused sample would end it early and make the numbers those of fewer samples. */
-static void play(void)
+static void play(void *unused)
 {
+    (void)unused;
     uint8_t state[KRTOVALIN_STATE] = {0};
     uint64_t answer = krtovalin_block(image, image_length, state, sizeof state, samples, drives, drives_length, outputs, sizeof outputs);
     if (answer != samples) {
@@ -57,7 +40,7 @@ static void play(void)
 static void count(void)
 {
     uint64_t greatest = 0;
-    play();
+    play(NULL);
     if (begun != samples) {
         fprintf(stderr, "%zu samples begun of %zu: not an instrumented block\n", begun, samples);
         exit(1);
@@ -67,45 +50,6 @@ static void count(void)
         if (greatest < marks[j + 1] - marks[j])
             greatest = marks[j + 1] - marks[j];
     printf("%.1f %" PRIu64 "\n", (double)marks[samples] / (double)samples, greatest);
-}
-
-/* The processor's time and not the clock's, so that other programs on the machine disturb less. */
-static double now(void)
-{
-    struct timespec time;
-    clock_gettime(CLOCK_PROCESS_CPUTIME_ID, &time);
-    return (double)time.tv_sec + 1e-9 * (double)time.tv_nsec;
-}
-
-static int ascending(const void *one, const void *other)
-{
-    double a = *(const double *)one, b = *(const double *)other;
-    return (a > b) - (a < b);
-}
-
-/* Seconds that a rendering takes, over as many as make a tenth of a second. */
-static double run(void)
-{
-    double start = now(), spent;
-    long renderings = 0;
-    do {
-        play();
-        renderings++;
-        spent = now() - start;
-    } while (spent < 0.1);
-    return spent / (double)renderings;
-}
-
-static void measure(size_t runs)
-{
-    double *seconds = malloc(runs * sizeof *seconds);
-    if (!seconds)
-        exit(1);
-    for (size_t i = 0; i < runs; i++)
-        seconds[i] = run();
-    qsort(seconds, runs, sizeof *seconds, ascending);
-    printf("%.1f\n", 1e9 * seconds[runs / 2] / (double)samples);
-    free(seconds);
 }
 
 int main(int words, char **word)
@@ -119,8 +63,12 @@ int main(int words, char **word)
     drives_length = contents(word[words - 1], drives, sizeof drives);
     /* Every circuit of the table has one driven node. */
     samples = drives_length / 4;
+    if (samples == 0) {
+        fprintf(stderr, "no samples\n");
+        return 1;
+    }
     if (runs)
-        measure((size_t)runs);
+        printf("%.1f\n", 1e9 * median((size_t)runs, play, NULL) / (double)samples);
     else
         count();
     return 0;

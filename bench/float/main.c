@@ -1,11 +1,11 @@
 /* float IMAGE DRIVES: the output node's voltage in microvolts, one line per sample.
    float --time RUNS IMAGE DRIVES: nanoseconds per sample, the median of RUNS runs, each of at least a tenth of a second. */
+#include "../timing.h"
 #include "simulate.h"
 
 #include <stdio.h>
 #include <stdlib.h>
 #include <string.h>
-#include <time.h>
 
 static uint8_t *contents(const char *name, size_t *length)
 {
@@ -26,44 +26,20 @@ static uint8_t *contents(const char *name, size_t *length)
     return bytes;
 }
 
-/* The processor's time and not the clock's, so that other programs on the machine disturb less. */
-static double now(void)
-{
-    struct timespec time;
-    clock_gettime(CLOCK_PROCESS_CPUTIME_ID, &time);
-    return (double)time.tv_sec + 1e-9 * (double)time.tv_nsec;
-}
+/* What a rendering goes through, from a fresh state. */
+struct rendering {
+    const struct circuit *circuit;
+    const double *drives;
+    size_t samples;
+    double *outputs;
+};
 
-static int ascending(const void *one, const void *other)
+static void render(void *what)
 {
-    double a = *(const double *)one, b = *(const double *)other;
-    return (a > b) - (a < b);
-}
-
-/* Seconds that so many renderings take, each from a fresh state. */
-static double run(long renderings, const struct circuit *circuit, const double *drives, size_t samples, double *outputs)
-{
-    double start = now();
-    for (long i = 0; i < renderings; i++) {
-        struct simulation simulation;
-        simulation_start(&simulation, circuit);
-        simulate(&simulation, drives, samples, outputs);
-    }
-    return now() - start;
-}
-
-static double median_per_sample(long runs, const struct circuit *circuit, const double *drives, size_t samples, double *outputs)
-{
-    double *seconds = malloc((size_t)runs * sizeof *seconds);
-    long renderings = 1;
-    while (run(renderings, circuit, drives, samples, outputs) < 0.1)
-        renderings *= 2;
-    for (long i = 0; i < runs; i++)
-        seconds[i] = run(renderings, circuit, drives, samples, outputs);
-    qsort(seconds, (size_t)runs, sizeof *seconds, ascending);
-    double median = seconds[runs / 2];
-    free(seconds);
-    return median / (double)renderings / (double)samples;
+    const struct rendering *r = what;
+    struct simulation simulation;
+    simulation_start(&simulation, r->circuit);
+    simulate(&simulation, r->drives, r->samples, r->outputs);
 }
 
 int main(int count, char **words)
@@ -86,7 +62,8 @@ int main(int count, char **words)
     }
 
     if (runs > 0 && samples > 0) {
-        printf("%.1f ns per sample\n", 1e9 * median_per_sample(runs, &circuit, drives, samples, outputs));
+        struct rendering rendering = {&circuit, drives, samples, outputs};
+        printf("%.1f ns per sample\n", 1e9 * median((size_t)runs, render, &rendering) / (double)samples);
         return 0;
     }
     struct simulation simulation;

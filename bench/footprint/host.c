@@ -9,29 +9,14 @@
 #include <string.h>
 #include <sys/mman.h>
 
-#include "krtovalin.h"
+#include "../host/room.h"
 
 #define STACK (1 << 20)
 #define PAINT 0xa5
-#define LONGEST 1360
-#define DRIVEN_MOST 15
 
-static uint8_t image[LONGEST + 1];
-static uint8_t drives[KRTOVALIN_SAMPLES * DRIVEN_MOST * 4];
-static uint8_t outputs[KRTOVALIN_SAMPLES * 4];
 static uint8_t state[KRTOVALIN_STATE];
 static size_t image_length, drives_length, samples;
 static uint8_t *stack;
-
-static size_t contents(const char *name, uint8_t *bytes, size_t room)
-{
-    FILE *file = fopen(name, "rb");
-    if (!file)
-        return 0;
-    size_t length = fread(bytes, 1, room, file);
-    fclose(file);
-    return length;
-}
 
 static void *nothing(void *unused)
 {
@@ -71,7 +56,7 @@ int main(int words, char **word)
         image_length = contents(word[i], image, sizeof image);
         drives_length = contents(word[i + 1], drives, sizeof drives);
         /* Too many samples would be refused before any is played. */
-        unsigned driven = image_length < 16 ? 0 : image[image_length - 9];
+        unsigned driven = image_length < TRAILER ? 0 : image[image_length - TRAILER + DRIVEN];
         samples = driven ? drives_length / 4 / driven : 1;
         if (samples > KRTOVALIN_SAMPLES)
             samples = KRTOVALIN_SAMPLES;

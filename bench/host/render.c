@@ -3,23 +3,9 @@
 #include <stdio.h>
 #include <string.h>
 
-#include "krtovalin.h"
+#include "room.h"
 
-#define LONGEST 1360
-#define TRAILER 16
-/* where the trailer has the count of driven nodes, and how many of them there may be */
-#define DRIVEN 7
-#define DRIVEN_MOST 15
-
-static uint8_t image[LONGEST + 1];
-static uint8_t drives[KRTOVALIN_SAMPLES * DRIVEN_MOST * 4];
-static uint8_t outputs[KRTOVALIN_SAMPLES * 4];
 static uint8_t state[KRTOVALIN_STATE];
-
-static size_t filled(FILE *file, uint8_t *bytes, size_t length)
-{
-    return file ? fread(bytes, 1, length, file) : 0;
-}
 
 static long output(size_t j)
 {
@@ -31,9 +17,8 @@ static long output(size_t j)
 
 int main(int argc, char **argv)
 {
-    FILE *image_file = argc > 1 ? fopen(argv[1], "rb") : NULL;
     FILE *drive_file = argc > 2 ? fopen(argv[2], "rb") : NULL;
-    size_t image_length = filled(image_file, image, sizeof image);
+    size_t image_length = argc > 1 ? contents(argv[1], image, sizeof image) : 0;
     unsigned long long done = 0;
     uint64_t answer = krtovalin_block(image, image_length, state, sizeof state, 0, drives, 0, outputs, 0);
     if (KRTOVALIN_NUMBER(answer) == 0) {

@@ -3,7 +3,7 @@
 #
 # `rt staticlib` compiles for x86-64 alone and with that processor's oldest instructions: on an Arm machine its archive links into nothing,
 # and an emulated time says nothing. So the module is taken on its way to the toolchain's clang, which is a link here to a script
-# that keeps a copy; the toolchain itself stays as it is. For measuring alone: what is shipped is the archive.
+# that keeps a copy; the toolchain itself stays as it is. For measuring and for host tests: what is shipped is the archive.
 set -eu
 cd "$(dirname "$0")/../.."
 out=$1
