@@ -4,14 +4,14 @@ import pathlib
 import re
 import sys
 
-# The ending's place, image, board, lines, stored currents, voltages.
-CALL = re.compile(r'^  call void @"guess::proposal::propose"\((?:ptr (%\w+)(?:, )?){6}\)$', re.M)
+# The ending's place, board, stretches, stored currents, voltages.
+CALL = re.compile(r'^  call void @"guess::proposal::propose"\((?:ptr (%\w+)(?:, )?){5}\)$', re.M)
 OUTSIDE = "\ndeclare void @bench_wild(ptr, ptr)\n"
 
 
 def overwritten(call):
     places = re.findall(r"ptr (%\w+)", call.group())
-    return f"{call.group()}\n  call void @bench_wild(ptr {places[2]}, ptr {places[5]})"
+    return f"{call.group()}\n  call void @bench_wild(ptr {places[1]}, ptr {places[4]})"
 
 
 def main(old, new):

@@ -3,10 +3,8 @@
 use super::show;
 use super::text::Image;
 use circuit::advance;
-use circuit::lines;
-use circuit::opening;
-use image::Answer;
-use image::Circuit;
+use image::Parts;
+use units::number::Number;
 use units::voltage::Voltage;
 ghost use mathlib.Core.Path.{_≡_};
 ghost use mathlib.Core.Bool.{true};
@@ -22,7 +20,7 @@ pub struct Question {
     pub stored: [i64; 32],
 }
 
-fn all_in_range(board: &[u64; 164], volts: &[i64; 16]) -> bool
+fn all_in_range(board: &[u64; 212], volts: &[i64; 16]) -> bool
     requires { ⌜ nodesOn (now board) < 16 ⌝ }
     ensures { λ r. ⌜ (r ≡ true → Ranged (now (board .entry)) (now (volts .entry))) ⌝ }
 {
@@ -39,7 +37,7 @@ fn all_in_range(board: &[u64; 164], volts: &[i64; 16]) -> bool
     true
 }
 
-fn all_kept(board: &[u64; 164], stored: &[i64; 32]) -> bool
+fn all_kept(board: &[u64; 212], stored: &[i64; 32]) -> bool
     requires { ⌜ countOn (now board) ≤ 32 ⌝ }
     ensures { λ r. ⌜ (r ≡ true → Kept (now (board .entry)) (now (stored .entry))) ⌝ }
 {
@@ -53,13 +51,13 @@ fn all_kept(board: &[u64; 164], stored: &[i64; 32]) -> bool
     true
 }
 
-fn of_board(image: &[u8], board: &[u64; 164], lines: &[i64; 136], q: Question)
-    requires { ⌜ Ready (now image) (now board) (now lines) ⌝ }
+fn of_board(board: &[u64; 212], stretches: &[i64; 408], q: Question)
+    requires { ⌜ Ready (now board) (now stretches) ⌝ }
 {
     let volts = q.volts;
     let mut stored = q.stored;
     if !q.sample {
-        show::circuit(image, board, lines);
+        show::circuit(board, stretches);
         return;
     }
     if !all_in_range(board, &volts) {
@@ -70,29 +68,32 @@ fn of_board(image: &[u8], board: &[u64; 164], lines: &[i64; 136], q: Question)
         show::text(b"  a stored current is beyond its limit\n");
         return;
     }
-    show::sample(image, board, lines, &volts, &mut stored);
+    show::sample(board, stretches, &volts, &mut stored);
 }
 
-fn of_circuit(image: &[u8], c: Circuit, q: Question)
-    requires { ⌜ Sound (now image) c ⌝ }
+fn refused() {
+    show::text(b"  the image is refused\n");
+}
+
+fn of_parts(parts: Parts, q: Question)
+    requires { ⌜ Sound parts ⌝ }
 {
-    let board = opening::board(c);
-    let start = c.start;
-    let lines = lines::table(image, &start);
-    of_board(image, &board, &lines, q);
+    if !image::conductances_fit(parts) {
+        refused();
+        return;
+    }
+    let mut stretches = [0i64; 408];
+    opening::stretches(parts, &mut stretches);
+    let board = opening::board(parts, &stretches);
+    of_board(&board, &stretches, q);
 }
 
 fn of_bytes(image: &[u8], q: Question) {
     let o = image::read(image);
-    let answer = o.answer;
-    let c = o.circuit;
-    match answer {
-        Answer::Accepted => {
-            of_circuit(image, c, q);
-        }
-        _ => {
-            show::text(b"  the image is refused\n");
-        }
+    let number = o.number;
+    match number {
+        Number::Done => of_parts(o.parts, q),
+        _ => refused(),
     }
 }
 

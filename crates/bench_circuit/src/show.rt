@@ -6,13 +6,11 @@ use circuit::bound;
 use circuit::bound::Bound;
 use circuit::branch;
 use circuit::node;
-use circuit::opening;
 use libc::STDOUT_FILENO;
 use units::signed;
 ghost use mathlib.Core.Path.{_≡_};
-ghost use Prim.Native.Nat.{_≤_};
 ghost use lib.ListN.{length};
-ghost use Rattle.circuit.specs.Board.{Ready, Evaluable, nodesOn};
+ghost use Rattle.circuit.specs.Board.{Laid, Evaluable};
 
 pub fn text(s: &[u8]) {
     io::write_all(STDOUT_FILENO, s);
@@ -33,10 +31,10 @@ fn one_signed(z: i64) {
 }
 
 // The least bound for e.
-fn least(image: &[u8], board: &[u64; 164], lines: &[i64; 136], e: u64)
-    requires { ⌜ Ready (now image) (now board) (now lines) ⌝ }
+fn least(board: &[u64; 212], stretches: &[i64; 408], e: u64)
+    requires { ⌜ Laid (now board) (now stretches) ⌝ }
 {
-    match bound::least(image, board, lines, e) {
+    match bound::least(board, stretches, e) {
         Bound::Least(b) => {
             one(b);
         }
@@ -47,89 +45,81 @@ fn least(image: &[u8], board: &[u64; 164], lines: &[i64; 136], e: u64)
 }
 
 // .. for no e, for one, and for the largest.
-fn bounds(image: &[u8], board: &[u64; 164], lines: &[i64; 136])
-    requires { ⌜ Ready (now image) (now board) (now lines) ⌝ }
+fn bounds(board: &[u64; 212], stretches: &[i64; 408])
+    requires { ⌜ Laid (now board) (now stretches) ⌝ }
 {
     text(b"  B");
-    least(image, board, lines, 0);
-    least(image, board, lines, 1);
-    least(image, board, lines, 1000000000000);
-    least(image, board, lines, 18446744073709551614);
-    least(image, board, lines, 18446744073709551615);
+    least(board, stretches, 0);
+    least(board, stretches, 1);
+    least(board, stretches, 1000000000000);
+    least(board, stretches, 18446744073709551614);
+    least(board, stretches, 18446744073709551615);
     text(b"\n");
 }
 
 // The held conductance of every node, with ground.
-fn held(image: &[u8], board: &[u64; 164], lines: &[i64; 136])
-    requires { ⌜ Ready (now image) (now board) (now lines) ⌝ }
+fn held(board: &[u64; 212], stretches: &[i64; 408])
+    requires { ⌜ Laid (now board) (now stretches) ⌝ }
 {
     let nodes = board::nodes(board);
     for i in 0..16usize {
         if i <= nodes {
-            one(node::held(image, board, lines, i));
+            one(node::held(board, stretches, i));
         }
     }
 }
 
-// The first n + 1 sums.
-fn sums(s: [u64; 16], n: usize) {
+// The steepest sum of every node, as it stands on the board.
+fn steepest(board: &[u64; 212]) {
+    let nodes = board::nodes(board);
     for i in 0..16usize {
-        if i <= n {
-            one(s[i]);
+        if i <= nodes {
+            one(board::steepest(board, i));
         }
     }
 }
 
 // Held conductance and steepest sum of every node.
-fn nodes(image: &[u8], board: &[u64; 164], lines: &[i64; 136])
-    requires { ⌜ Ready (now image) (now board) (now lines) ⌝ }
+fn nodes(board: &[u64; 212], stretches: &[i64; 408])
+    requires { ⌜ Laid (now board) (now stretches) ⌝ }
 {
     text(b"  held");
-    held(image, board, lines);
+    held(board, stretches);
     text(b" steepest");
-    sums(
-        opening::steepest_sums(image, board, lines),
-        board::nodes(board),
-    );
+    steepest(board);
     text(b"\n");
 }
 
 // What a circuit is by itself.
-pub fn circuit(image: &[u8], board: &[u64; 164], lines: &[i64; 136])
-    requires { ⌜ Ready (now image) (now board) (now lines) ⌝ }
+pub fn circuit(board: &[u64; 212], stretches: &[i64; 408])
+    requires { ⌜ Laid (now board) (now stretches) ⌝ }
 {
-    nodes(image, board, lines);
-    bounds(image, board, lines);
+    nodes(board, stretches);
+    bounds(board, stretches);
 }
 
 // The current of every element.
-fn flows(
-    image: &[u8],
-    board: &[u64; 164],
-    lines: &[i64; 136],
-    stored: &[i64; 32],
-    volts: &[i64; 16],
-)
-    requires { ⌜ Evaluable (now image) (now board) (now lines) (now stored) (now volts) ⌝ }
+fn flows(board: &[u64; 212], stretches: &[i64; 408], stored: &[i64; 32], volts: &[i64; 16])
+    requires { ⌜ Evaluable (now board) (now stretches) (now stored) (now volts) ⌝ }
 {
     let count = board::count(board);
     text(b"  flow");
     for j in 0..32usize {
         if j < count {
-            one_signed(branch::flow(image, board, lines, stored, volts, j));
+            one_signed(branch::flow(board, stretches, stored, volts, j));
         }
     }
 }
 
 // The net current of every node, with ground.
-fn nets(image: &[u8], board: &[u64; 164], lines: &[i64; 136], stored: &[i64; 32], volts: &[i64; 16])
-    requires { ⌜ Evaluable (now image) (now board) (now lines) (now stored) (now volts) ⌝ }
+fn nets(board: &[u64; 212], stretches: &[i64; 408], stored: &[i64; 32], volts: &[i64; 16])
+    requires { ⌜ Evaluable (now board) (now stretches) (now stored) (now volts) ⌝ }
 {
     let nodes = board::nodes(board);
     text(b" net");
     for i in 0..16usize {
         if i <= nodes {
-            one_signed(node::net_current(image, board, lines, stored, volts, i));
+            one_signed(node::net_current(board, stretches, stored, volts, i));
         }
     }
 }
@@ -144,16 +134,10 @@ fn row(x: &[i64; 32], n: usize) {
 }
 
 // The stored currents after a sample.
-fn advanced(
-    image: &[u8],
-    board: &[u64; 164],
-    lines: &[i64; 136],
-    volts: &[i64; 16],
-    stored: &mut [i64; 32],
-)
-    requires { ⌜ Evaluable (now image) (now board) (now lines) (now stored) (now volts) × (length (now stored) ≡ 32) ⌝ }
+fn advanced(board: &[u64; 212], stretches: &[i64; 408], volts: &[i64; 16], stored: &mut [i64; 32])
+    requires { ⌜ Evaluable (now board) (now stretches) (now stored) (now volts) × (length (now stored) ≡ 32) ⌝ }
 {
-    match advance::advance(image, board, lines, volts, stored) {
+    match advance::advance(board, stretches, volts, stored) {
         Advanced::Stored => {
             text(b" stored");
         }
@@ -166,16 +150,10 @@ fn advanced(
 }
 
 // What a circuit does at these voltages with these stored currents.
-pub fn sample(
-    image: &[u8],
-    board: &[u64; 164],
-    lines: &[i64; 136],
-    volts: &[i64; 16],
-    stored: &mut [i64; 32],
-)
-    requires { ⌜ Evaluable (now image) (now board) (now lines) (now stored) (now volts) × (length (now stored) ≡ 32) ⌝ }
+pub fn sample(board: &[u64; 212], stretches: &[i64; 408], volts: &[i64; 16], stored: &mut [i64; 32])
+    requires { ⌜ Evaluable (now board) (now stretches) (now stored) (now volts) × (length (now stored) ≡ 32) ⌝ }
 {
-    flows(image, board, lines, stored, volts);
-    nets(image, board, lines, stored, volts);
-    advanced(image, board, lines, volts, stored);
+    flows(board, stretches, stored, volts);
+    nets(board, stretches, stored, volts);
+    advanced(board, stretches, volts, stored);
 }

@@ -1,8 +1,12 @@
 // What comes of an image, written out.
 use super::build;
 use super::build::Image;
-use image::Circuit;
+use image::Element;
+use image::Parts;
 use libc::STDOUT_FILENO;
+use std::num::wrapping_add_usize as plus;
+use units::number;
+use units::number::Number;
 use units::signed;
 
 pub fn text(s: &[u8]) {
@@ -37,8 +41,20 @@ fn number_in(s: &[u8], n: usize) -> u64 {
         return 7;
     }
     let o = image::read(&s[0..n]);
-    let a = o.answer;
-    image::number_of(a)
+    let number = o.number;
+    let parts = o.parts;
+    judged(number, parts)
+}
+
+// The reader's number, or rule 6's of an image that it opened.
+fn judged(number: Number, parts: Parts) -> u64 {
+    let n = number::value(number);
+    if n == 0 {
+        if !image::conductances_fit(parts) {
+            return number::value(Number::Conductance);
+        }
+    }
+    n
 }
 
 // The array as a slice.
@@ -86,16 +102,14 @@ pub fn row(v: &[u64]) {
     }
 }
 
-fn element(c: Circuit, j: usize) {
-    if j < 32 {
-        text(b"element");
-        one(c.kind[j] as u64);
-        place(c.p[j]);
-        place(c.q[j]);
-        one(c.conductance[j]);
-        place(c.curve[j]);
-        text(b"\n");
-    }
+fn element(e: Element, rate: u32) {
+    text(b"element");
+    one(e.kind as u64);
+    one(e.p as u64);
+    one(e.q as u64);
+    one(image::conductance(e.kind, e.value, rate));
+    one(e.curve as u64);
+    text(b"\n");
 }
 
 fn slopes(s: &[u8], m: usize) {
@@ -127,9 +141,8 @@ fn breakpoint(s: &[u8], j: usize) {
     }
 }
 
-// The curve at a place of the image, read from the part of the image that it is.
-fn curve(s: &[u8], at: usize) {
-    let c = image::curve_at(s, at);
+// A curve, read from the part of the image that it is.
+fn curve(c: &[u8], at: usize) {
     if 1 <= c.len() {
         let m = image::breakpoint_count(c);
         text(b"curve at");
@@ -142,25 +155,33 @@ fn curve(s: &[u8], at: usize) {
     }
 }
 
-fn head(c: Circuit) {
-    one(c.leak);
-    place(c.nodes);
-    place(c.driven);
-    place(c.output);
-    place(c.count);
+fn head(leak: u64, p: Parts) {
+    one(leak);
+    one(p.nodes as u64);
+    one(p.driven as u64);
+    one(p.output as u64);
+    one(p.element_count as u64);
     text(b"\n");
 }
 
-// The circuit of the first n bytes of s, with its curves.
+// A refusal has no leak.
+fn leak(number: Number, version: u8) -> u64 {
+    if number::value(number) == 0 {
+        return image::leak(version);
+    }
+    0
+}
+
+// The parts of the first n bytes of s, with their curves.
 fn parts(s: &[u8], n: usize) {
     if n <= s.len() {
         let t = &s[0..n];
         let o = image::read(t);
-        let c = o.circuit;
-        let start = c.start;
-        head(c);
-        elements(c);
-        curves(t, start);
+        let number = o.number;
+        let p = o.parts;
+        head(leak(number, p.version), p);
+        elements(p);
+        curves(t, 8 * (p.element_count as usize), p.curve_count as usize);
     }
 }
 
@@ -178,17 +199,22 @@ pub fn circuit(label: &[u8], i: Image) {
     parts_at(&bytes, i.n);
 }
 
-fn elements(c: Circuit) {
-    for j in 0..c.count {
-        element(c, j);
+fn elements(p: Parts) {
+    let n = p.element_count as usize;
+    let rate = p.rate;
+    for j in 0..n {
+        if j < 32 {
+            element(p.elements[j], rate);
+        }
     }
 }
 
-fn curves(s: &[u8], start: [usize; 8]) {
-    for k in 0..8usize {
-        let at = start[k];
-        if 0 < at {
-            curve(s, at);
-        }
+// The curves lie one behind the other.
+fn curves(s: &[u8], first: usize, n: usize) {
+    let mut at = first;
+    for k in 0..n {
+        let c = image::curve_at(s, at);
+        curve(c, at);
+        at = plus(at, c.len());
     }
 }

@@ -1,5 +1,6 @@
--- From an accepted image to what a first sample is given. Assumes nothing.
-use mathlib.Core.Path.{_≡_, refl, sym, _∙_, ap}
+-- From an opened image to what a first sample is given. Assumes nothing.
+use mathlib.Core.Path.{_≡_, refl}
+use mathlib.Core.Bool.{true}
 use mathlib.Core.List.{List}
 use mathlib.Core.Logic.{⊎-elim}
 use Prim.Native.Nat.{ℕ, zero, suc, _≤_, _<_}
@@ -7,25 +8,22 @@ use native.Mathlib.Omega.{arith}
 use lib.IntN.{ℤ, pos}
 use lib.ListN.{length, getD, set, replicate, length-set}
 use lib.Seq.{getD-set-same, getD-set-other}
+use Rattle.image.specs.Conductance.{conductancesFit}
+use Rattle.image.specs.Setting.{plain}
 use Rattle.image.specs.Sound.{Sound}
-use Rattle.image.specs.declared.circuit.Circuit.{Circuit}
-use Rattle.circuit.specs.Board.{networkOn, Ready}
-use Rattle.circuit.specs.Line.{Drawn}
-use Rattle.circuit.specs.Opening.{boardOf, steepestSums}
-use Rattle.circuit.proofs.OpeningLaws.{ready}
+use Rattle.image.specs.declared.parts.Parts.{Parts}
+use Rattle.image.proofs.Sound.{in-limits}
+use Rattle.opening.specs.Opening.{boardOf, stretchesOf}
+use Rattle.opening.proofs.BoardIs.{ready}
 use Rattle.units.specs.Voltage.{Within}
 use Rattle.units.proofs.Integers.{decideN}
 use Rattle.network.specs.Network.{reading, storedLimit}
-use Rattle.solve.specs.Sample.{Given}
-use Rattle.solve.proofs.SampleLaws.{steep-of}
+use Rattle.solve.specs.Sample.{Playable}
 
 zeros : (n j : ℕ) → getD (replicate n (pos 0)) j (pos 0) ≡ pos 0
 zeros zero j = refl
 zeros (suc n) zero = refl
 zeros (suc n) (suc j) = zeros n j
-
-pub ready-is : (image : List ℕ) (c : Circuit) (board : List ℕ) (lines : List ℤ) → Sound image c → board ≡ boardOf c → Drawn image (c .start) 8 lines → Ready image board lines
-ready-is image c board lines sound b drawn = rw b (ready image c sound lines drawn)
 
 -- stored currents of which none is beyond its limit: zeros, and zeros with one of them changed
 abbrev pub Charged : List ℤ → Type 0
@@ -44,10 +42,9 @@ charged at x h k = (
       (λ (a : j < at). rw (getD-set-other (replicate 32 (pos 0)) at j x (pos 0) (λ i. omega arith)) (uncharged .1 j)) (decideN at j),
 )
 
-pub first-given : (image board : List ℕ) (lines : List ℤ) (steep : List ℕ) (stored : List ℤ) → Ready image board lines → steep ≡ steepestSums image board → Charged stored → Given image board lines steep stored
-first-given image board lines steep stored r e s = record {
-  ready = r;
-  steepest-sums = steep-of image board lines steep r e;
-  kept = λ j l. s .1 j;
-  long = s .0;
+pub first-playable : (parts : Parts) (board : List ℕ) (stretches stored : List ℤ) → Sound parts → conductancesFit parts plain ≡ true → board ≡ boardOf parts plain → stretches ≡ stretchesOf parts → Charged stored → Playable board stretches stored
+first-playable parts board stretches stored sound fits b s charge = record {
+  ready = rw (b, s) (ready parts plain sound (in-limits parts plain sound fits));
+  kept = λ j l. charge .1 j;
+  long = charge .0;
 }

@@ -1,20 +1,20 @@
 // A circuit played for some samples, every one from several proposals.
 use circuit::advance;
 use circuit::board;
-use circuit::lines;
-use circuit::opening;
-use image::Answer;
-use image::Circuit;
+use image::Parts;
 use libc::STDOUT_FILENO;
 use solve::sample;
+use units::number;
+use units::number::Number;
 use units::signed;
+use units::voltage::Voltage;
 ghost use mathlib.Core.Path.{_≡_};
-ghost use Prim.Native.Nat.{ℕ, _≤_, _<_};
+ghost use Prim.Native.Nat.{ℕ};
 ghost use lib.ListN.{length};
 ghost use Rattle.units.specs.Voltage.{Within};
 ghost use Rattle.network.specs.Network.{reading, storedLimit};
 ghost use Rattle.image.specs.Sound.{Sound};
-ghost use Rattle.solve.specs.Sample.{Given};
+ghost use Rattle.solve.specs.Sample.{Playable};
 
 fn text(s: &[u8]) {
     io::write_all(STDOUT_FILENO, s);
@@ -70,10 +70,10 @@ fn proposal(which: u64, v: i64) -> i64 {
         return 0;
     }
     if which == 2 {
-        return 33554432;
+        return Voltage::LIMIT;
     }
     if which == 3 {
-        return -33554432;
+        return -Voltage::LIMIT;
     }
     if which == 4 {
         if signed::size(v) < 1000000000 {
@@ -104,27 +104,17 @@ fn propose(which: u64, driven: usize, d: i64, last: &[i64; 16]) -> [i64; 16] {
     volts
 }
 
-// One sample on a copy of the stored currents: its voltages.
+// One sample on a copy of the stored currents: its number.
 fn attempt(
-    image: &[u8],
-    board: &[u64; 164],
-    lines: &[i64; 136],
-    steep: &[u64; 16],
+    board: &[u64; 212],
+    stretches: &[i64; 408],
     stored: &[i64; 32],
-    which: u64,
-    d: i64,
-    last: &[i64; 16],
-) -> [i64; 16]
-    requires { ⌜ Given (now image) (now board) (now lines) (now steep) (now stored) ⌝ }
+    volts: &mut [i64; 16],
+) -> u64
+    requires { ⌜ Playable (now board) (now stretches) (now stored) ⌝ }
 {
     let mut x = *stored;
-    let mut volts = propose(which, board::driven(board), d, last);
-    match sample::sample(image, board, lines, steep, &mut volts, &mut x) {
-        sample::Outcome::Accepted => volts,
-        sample::Outcome::DriveRefused => [9; 16],
-        sample::Outcome::RailRefused => [10; 16],
-        sample::Outcome::StoredRefused => [11; 16],
-    }
+    number::value(sample::sample(board, stretches, volts, &mut x))
 }
 
 // Whether nodes stand alike, up to the last that is there.
@@ -141,59 +131,49 @@ fn alike(nodes: usize, a: &[i64; 16], b: &[i64; 16]) -> bool {
     true
 }
 
-// Whether all proposals come to the same.
+// Whether all proposals come to the same: one number, and one answer where there is any.
 fn agree(
-    image: &[u8],
-    board: &[u64; 164],
-    lines: &[i64; 136],
-    steep: &[u64; 16],
+    board: &[u64; 212],
+    stretches: &[i64; 408],
     stored: &[i64; 32],
     d: i64,
     last: &[i64; 16],
 ) -> bool
-    requires { ⌜ Given (now image) (now board) (now lines) (now steep) (now stored) ⌝ }
+    requires { ⌜ Playable (now board) (now stretches) (now stored) ⌝ }
 {
     let nodes = board::nodes(board);
-    let first = attempt(image, board, lines, steep, stored, 0, d, last);
+    let driven = board::driven(board);
+    let mut first = propose(0, driven, d, last);
+    let number = attempt(board, stretches, stored, &mut first);
     let mut which: u64 = 1;
     while which < 7 {
-        let other = attempt(image, board, lines, steep, stored, which, d, last);
-        if alike(nodes, &first, &other) {
-            which += 1;
-        } else {
+        let mut other = propose(which, driven, d, last);
+        if attempt(board, stretches, stored, &mut other) != number {
             return false;
         }
+        if (number == 0) & !alike(nodes, &first, &other) {
+            return false;
+        }
+        which += 1;
     }
     true
 }
 
-// Document 01's number.
-fn number_of(r: sample::Outcome) -> u64 {
-    match r {
-        sample::Outcome::Accepted => 0,
-        sample::Outcome::DriveRefused => 9,
-        sample::Outcome::RailRefused => 10,
-        sample::Outcome::StoredRefused => 11,
-    }
-}
-
-// A sample on the stored currents themselves, from the last answer. Document 01's number.
+// A sample on the stored currents themselves, from the last answer: its number.
 fn advanced(
-    image: &[u8],
-    board: &[u64; 164],
-    lines: &[i64; 136],
-    steep: &[u64; 16],
+    board: &[u64; 212],
+    stretches: &[i64; 408],
     stored: &mut [i64; 32],
     d: i64,
     last: &mut [i64; 16],
 ) -> u64
-    requires { ⌜ Given (now image) (now board) (now lines) (now steep) (now stored) ⌝ }
-    ensures { λ r. ⌜ Given (now (image .entry)) (now (board .entry)) (now (lines .entry)) (now (steep .entry)) (now (stored .exit)) ⌝ }
+    requires { ⌜ Playable (now board) (now stretches) (now stored) ⌝ }
+    ensures { λ r. ⌜ Playable (now (board .entry)) (now (stretches .entry)) (now (stored .exit)) ⌝ }
 {
     let mut volts = propose(0, board::driven(board), d, last);
-    let r = sample::sample(image, board, lines, steep, &mut volts, stored);
+    let r = sample::sample(board, stretches, &mut volts, stored);
     *last = volts;
-    number_of(r)
+    number::value(r)
 }
 
 // One more voltage in a checksum.
@@ -238,8 +218,15 @@ fn show_stored(count: usize, stored: &[i64; 32]) {
     text(b"\n");
 }
 
-fn refused() {
-    text(b" refused\n");
+fn refused(number: u64) {
+    text(b" refused ");
+    io::print_decimal(STDOUT_FILENO, number);
+}
+
+// .. where there is no more to say.
+fn stopped(number: u64) {
+    refused(number);
+    text(b"\n");
 }
 
 fn differ() {
@@ -255,63 +242,48 @@ fn agreed(sum: u64, nodes: usize, last: &[i64; 16]) {
 }
 
 // The number of a refused sample, or an accepted one's voltages.
-fn tell(r: u64, nodes: usize, volts: &[i64; 16]) {
-    if r == 0 {
+fn tell(number: u64, nodes: usize, volts: &[i64; 16]) {
+    if number == 0 {
         show(nodes, volts);
     } else {
-        text(b" refused ");
-        io::print_decimal(STDOUT_FILENO, r);
+        refused(number);
     }
 }
 
 // n samples.
-fn samples(
-    image: &[u8],
-    board: &[u64; 164],
-    lines: &[i64; 136],
-    steep: &[u64; 16],
-    stored: &mut [i64; 32],
-    n: u64,
-)
-    requires { ⌜ Given (now image) (now board) (now lines) (now steep) (now stored) ⌝ }
+fn samples(board: &[u64; 212], stretches: &[i64; 408], stored: &mut [i64; 32], n: u64)
+    requires { ⌜ Playable (now board) (now stretches) (now stored) ⌝ }
 {
     let nodes = board::nodes(board);
     let mut last = [0i64; 16];
     let mut sum: u64 = 1;
     let mut k: u64 = 0;
     while k < n {
-        if agree(image, board, lines, steep, stored, drive(k), &last) {
-            if advanced(image, board, lines, steep, stored, drive(k), &mut last) == 0 {
-                sum = mixed_all(sum, nodes, &last);
-                k += 1;
-            } else {
-                refused();
-                return;
-            }
-        } else {
+        if !agree(board, stretches, stored, drive(k), &last) {
             differ();
             return;
         }
+        let number = advanced(board, stretches, stored, drive(k), &mut last);
+        if number != 0 {
+            stopped(number);
+            return;
+        }
+        sum = mixed_all(sum, nodes, &last);
+        k += 1;
     }
     agreed(sum, nodes, &last);
 }
 
 // One sample of drive d: from all proposals, those beside its own answer among them.
-fn once(
-    image: &[u8],
-    board: &[u64; 164],
-    lines: &[i64; 136],
-    steep: &[u64; 16],
-    stored: &mut [i64; 32],
-    d: i64,
-)
-    requires { ⌜ Given (now image) (now board) (now lines) (now steep) (now stored) ⌝ }
+fn once(board: &[u64; 212], stretches: &[i64; 408], stored: &mut [i64; 32], d: i64)
+    requires { ⌜ Playable (now board) (now stretches) (now stored) ⌝ }
 {
     let zeros = [0i64; 16];
-    let mut last = attempt(image, board, lines, steep, stored, 1, d, &zeros);
-    if agree(image, board, lines, steep, stored, d, &last) {
-        let r = advanced(image, board, lines, steep, stored, d, &mut last);
-        tell(r, board::nodes(board), &last);
+    let mut last = propose(1, board::driven(board), d, &zeros);
+    attempt(board, stretches, stored, &mut last);
+    if agree(board, stretches, stored, d, &last) {
+        let number = advanced(board, stretches, stored, d, &mut last);
+        tell(number, board::nodes(board), &last);
         show_stored(board::count(board), stored);
     } else {
         differ();
@@ -331,34 +303,32 @@ fn charged(at: usize, x: i64) -> [i64; 32]
     stored
 }
 
-// An accepted image: n samples, or where n is 0 the one of drive d.
-fn opened(image: &[u8], c: Circuit, n: u64, at: usize, x: i64, d: i64)
-    requires { ⌜ Sound (now image) c ⌝ }
+// An opened image: n samples, or where n is 0 the one of drive d.
+fn opened(parts: Parts, n: u64, at: usize, x: i64, d: i64)
+    requires { ⌜ Sound parts ⌝ }
 {
-    let board = opening::board(c);
-    let start = c.start;
-    let lines = lines::table(image, &start);
-    let steep = opening::steepest_sums(image, &board, &lines);
+    if !image::conductances_fit(parts) {
+        stopped(number::value(Number::Conductance));
+        return;
+    }
+    let mut stretches = [0i64; 408];
+    opening::stretches(parts, &mut stretches);
+    let board = opening::board(parts, &stretches);
     let mut stored = charged(at, x);
     if n == 0 {
-        once(image, &board, &lines, &steep, &mut stored, d);
+        once(&board, &stretches, &mut stored, d);
     } else {
-        samples(image, &board, &lines, &steep, &mut stored, n);
+        samples(&board, &stretches, &mut stored, n);
     }
 }
 
-// An image, which must be accepted.
+// An image, which must be opened.
 fn played(image: &[u8], n: u64, at: usize, x: i64, d: i64) {
     let o = image::read(image);
-    let a = o.answer;
-    match a {
-        Answer::Accepted => opened(image, o.circuit, n, at, x, d),
-        Answer::Length => text(b" length\n"),
-        Answer::Trailer => text(b" trailer\n"),
-        Answer::Sizes => text(b" sizes\n"),
-        Answer::Curves => text(b" curves\n"),
-        Answer::Elements => text(b" elements\n"),
-        Answer::Conductances => text(b" conductances\n"),
+    let number = o.number;
+    match number {
+        Number::Done => opened(o.parts, n, at, x, d),
+        _ => stopped(number::value(number)),
     }
 }
 

@@ -9,84 +9,70 @@ use lib.IntN.{ℤ}
 use lib.ListN.{length}
 use mir.Syntax.{w64}
 use mir.Val.{ofZ}
-use Rattle.units.specs.Bytes.{stored}
-use Rattle.units.proofs.LittleEndian.{stored-length}
+use Rattle.units.specs.Bytes.{written}
+use Rattle.units.specs.Number.{numberOf}
+use Rattle.units.specs.declared.number.Number.{Number}
+use Rattle.units.proofs.LittleEndian.{written-length}
 use Rattle.network.specs.Network.{Network, reading}
-use Rattle.network.specs.Sample.{Outcome, numberOf, accepted, driveRefused, railRefused, storedRefused, Accepted, Gives}
+use Rattle.network.specs.Sample.{Outcome, accepted, answerOf, Accepted, Gives}
 use Rattle.network.proofs.Outcome.{gives-alike}
 use Rattle.circuit.specs.Board.{drivenOn, networkOn}
 use Rattle.solve.specs.Answer.{drivesAt}
-use Rattle.solve.specs.Sample.{Given, outcomeOf}
-use Rattle.solve.specs.Sample as solve
-use Rattle.solve.specs.declared.sample.Outcome as solution
-use Rattle.solve.specs.declared.sample.Outcome.the-variants as outcome
-use Rattle.solve.proofs.SampleLaws.{steep-of}
+use Rattle.solve.specs.Sample.{Playable, Sampled, passed, refused}
 use Rattle.block.specs.Block.{driveAt, Run, start, sample}
 use Rattle.block.specs.Drives.{Begun}
-use Rattle.block.specs.Playing.{Playing, Driven, Room, Sampled, passed, refused, Ran, short}
+use Rattle.block.specs.Playing.{Driven, Room, stateOf, Ran, short}
+use Rattle.block.specs.declared.call.State.{State}
 
--- ---- a sample of the code
+-- ---- a sample of the code, with the drives that stand at the driven nodes
 
--- what it is given
-pub given : (image board : List ℕ) (lines x : List ℤ) (steep : List ℕ) → Playing image board lines x steep → Given image board lines steep x
-given image board lines x steep p = record { ready = p .ready; steepest-sums = steep-of image board lines steep (p .ready) (p .steepest-sums); kept = p .kept; long = p .long }
+module _ (board : List ℕ) (stretches : List ℤ) (drives : List ℕ) (j : ℕ) (volts x : List ℤ) (begun : Begun board drives j volts) where
+  moved : (r : Outcome) → Gives (networkOn board stretches) (reading x) (drivesAt volts) r → Gives (networkOn board stretches) (reading x) (driveAt drives (drivenOn board) j) r
+  moved r g = gives-alike (networkOn board stretches) (reading x) (reading x) (drivesAt volts) (driveAt drives (drivenOn board) j) (λ i h. refl) begun r g
 
--- what comes of it, with the drives that stand at the driven nodes
-module _ (image board drives : List ℕ) (j : ℕ) (volts x v y : List ℤ) (begun : Begun board drives j volts) where
-  moved : (r : Outcome) → Gives (networkOn image board) (reading x) (drivesAt volts) r → Gives (networkOn image board) (reading x) (driveAt drives (drivenOn board) j) r
-  moved r g = gives-alike (networkOn image board) (reading x) (reading x) (drivesAt volts) (driveAt drives (drivenOn board) j) (λ i h. refl) begun r g
-
-  pub sampled-is : (r : solution.Outcome) → solve.Sampled image board volts x v y r → Sampled (networkOn image board) (driveAt drives (drivenOn board) j) x y v (numberOf (outcomeOf r v y))
-  sampled-is outcome.Accepted s = passed (moved (accepted (reading v) (reading y)) (s .gives)) (s .carried .0) (s .carried .1)
-  sampled-is outcome.DriveRefused s = refused driveRefused (moved driveRefused (s .gives)) (omega arith) (s .carried)
-  sampled-is outcome.RailRefused s = refused railRefused (moved railRefused (s .gives)) (omega arith) (s .carried)
-  sampled-is outcome.StoredRefused s = refused storedRefused (moved storedRefused (s .gives)) (omega arith) (s .carried)
+  pub sampled-is : {y v : List ℤ} {r : Number} → Sampled (networkOn board stretches) (drivesAt volts) x y v r → Sampled (networkOn board stretches) (driveAt drives (drivenOn board) j) x y v r
+  sampled-is {y = y} {v = v} (passed g l o) = passed (moved (accepted (reading v) (reading y)) g) l o
+  sampled-is (refused r g s l) = refused r (moved r g) s l
 
 -- ---- from one sample to the next
-
--- after an accepted sample the next may be played
-pub playing-on : (image board : List ℕ) (lines x y : List ℤ) (steep : List ℕ) (v d : ℕ → ℤ) → Playing image board lines x steep → Accepted (networkOn image board) (reading x) d v (reading y) → length y ≡ length x → Playing image board lines y steep
-playing-on image board lines x y steep v d p a l = record { ready = p .ready; steepest-sums = p .steepest-sums; long = l ∙ p .long; kept = a .kept }
 
 pub record Passed (N : Network) (d : ℕ → ℤ) (x y v : List ℤ) : Type 0 where
   pub gives : Accepted N (reading x) d (reading v) (reading y)
   pub long : length y ≡ length x
   pub others : (i : ℕ) → N .count ≤ i → reading y i ≡ reading x i
 
-pub record Refused (N : Network) (d : ℕ → ℤ) (x y : List ℤ) (number : ℕ) : Type 0 where
+pub record Refused (N : Network) (d : ℕ → ℤ) (x y : List ℤ) (answer : Number) : Type 0 where
   pub outcome : Outcome
   pub gives : Gives N (reading x) d outcome
-  pub some : 0 < numberOf outcome
+  pub some : 0 < numberOf (answerOf outcome)
   pub left : y ≡ x
-  pub is : number ≡ numberOf outcome
+  pub is : answer ≡ answerOf outcome
 
 -- number 0 is an accepted sample, any other a refused one
-pub passed-is : {N : Network} {d : ℕ → ℤ} {x y v : List ℤ} {number : ℕ} → Sampled N d x y v number → number ≡ 0 → Passed N d x y v
+pub passed-is : {N : Network} {d : ℕ → ℤ} {x y v : List ℤ} {r : Number} → Sampled N d x y v r → numberOf r ≡ 0 → Passed N d x y v
 passed-is (passed g l o) e = record { gives = g; long = l; others = o }
 passed-is (refused r g s l) e = absurd (omega arith)
 
-pub refused-is : {N : Network} {d : ℕ → ℤ} {x y v : List ℤ} {number : ℕ} → Sampled N d x y v number → (number ≡ 0 → ⊥) → Refused N d x y number
+pub refused-is : {N : Network} {d : ℕ → ℤ} {x y v : List ℤ} {r : Number} → Sampled N d x y v r → (numberOf r ≡ 0 → ⊥) → Refused N d x y r
 refused-is (passed g l o) n = absurd (n refl)
 refused-is (refused r g s l) n = record { outcome = r; gives = g; some = s; left = l; is = refl }
 
-pub number-small : (r : Outcome) → numberOf r ≤ 11
-number-small (accepted v y) = omega arith
-number-small driveRefused = omega arith
-number-small railRefused = omega arith
-number-small storedRefused = omega arith
+-- after an accepted sample the next may be played
+pub playable-on : {board : List ℕ} {stretches x y v : List ℤ} {d : ℕ → ℤ} → Playable board stretches x → Passed (networkOn board stretches) d x y v → Playable board stretches y
+playable-on p q = record { ready = p .ready; kept = q .gives .kept; long = q .long ∙ p .long }
 
 -- as many output bytes as before
-pub run-length : {N : Network} {output : ℕ} {d : ℕ → ℕ → ℤ} {x : List ℤ} {outputs : List ℕ} {j : ℕ} {y : List ℤ} {o : List ℕ} → Run N output d x outputs j y o → length o ≡ length outputs
+pub run-length : {N : ℕ → Network} {output : ℕ} {d : ℕ → ℕ → ℤ} {x : State} {outputs : List ℕ} {j : ℕ} {y : State} {o : List ℕ} → Run N output d x outputs j y o → length o ≡ length outputs
 run-length start = refl
-run-length {output = output} (sample {j = j} {o = o} v z r g l k) = stored-length 4 o (4 * j) (ofZ w64 (v output)) ∙ run-length r
+run-length {output = output} (sample {j = j} {o = o} v r g l k) = written-length 4 o (4 * j) (ofZ w64 (v output)) ∙ run-length r
 
-module _ {N : Network} {output : ℕ} {d : ℕ → ℕ → ℤ} {x₀ : List ℤ} {outputs : List ℕ} {j : ℕ} {x y : List ℤ} {o : List ℕ} (run : Run N output d x₀ outputs j x o) where
+module _ {N : Network} {output : ℕ} {d : ℕ → ℕ → ℤ} {x₀ : List ℤ} {outputs : List ℕ} {j : ℕ} {x y : List ℤ} {o : List ℕ} (run : Run (λ (j : ℕ). N) output d (stateOf x₀) outputs j (stateOf x) o) where
   -- one more sample
-  pub run-more : {v : List ℤ} → Passed N (d j) x y v → Run N output d x₀ outputs (j + 1) y (stored 4 o (4 * j) (ofZ w64 (reading v output)))
-  run-more {v = v} q = rw add-one (sample (reading v) y run (q .gives) (q .long) (q .others))
+  pub run-more : {v : List ℤ} → Passed N (d j) x y v → Run (λ (j : ℕ). N) output d (stateOf x₀) outputs (j + 1) (stateOf y) (written 4 o (4 * j) (ofZ w64 (reading v output)))
+  run-more {v = v} q = rw add-one (sample (reading v) run (q .gives) (q .long) (q .others))
 
   -- .. or the end of the run
-  pub run-short : {number n : ℕ} → j < n → Refused N (d j) x y number → Ran N output d x₀ n outputs y o (number * 65536 + j)
+  pub run-short : {r : Number} {n : ℕ} → j < n → Refused N (d j) x y r → Ran N output d x₀ n outputs y o (numberOf r * 65536 + j)
   run-short h q = rw (q .is, q .left) (short j (q .outcome) h run (q .gives) (q .some))
 
 -- the drives of each of n samples are there

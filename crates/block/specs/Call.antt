@@ -1,4 +1,4 @@
--- The block as a host written in C calls it: stored currents as bytes, one packed number back. Assumes nothing.
+-- The block as a host written in C calls it: a state as bytes, one packed number back. Assumes nothing.
 use mathlib.Core.Path.{_≡_}
 use mathlib.Core.Bool.{cond}
 use mathlib.Core.List.{List, []}
@@ -8,38 +8,43 @@ use lib.IntN.{ℤ}
 use lib.ListN.{length}
 use mir.Syntax.{w64}
 use mir.Val.{toZ, ofZ}
-use Rattle.units.specs.Bytes.{littleEndian, stored}
+use Rattle.units.specs.Bytes.{littleEndian, written}
+use Rattle.units.specs.Table.{tabulate}
 use Rattle.network.specs.Network.{reading}
-use Rattle.image.specs.Curve.{tabulate}
 use Rattle.block.specs.Block.{places, Plays}
+use Rattle.block.specs.declared.call.State.{State}
 
--- the stored currents in a state's bytes, eight bytes each; a state of another length holds none
-unfoldable pub storedIn : List ℕ → List ℤ
-storedIn state = cond (eqb (length state) (8 * places)) (tabulate (λ (j : ℕ). toZ w64 (littleEndian 8 state (8 * j))) places) []
+-- how many bytes a state has: eight for each stored current
+abbrev pub stateSize : ℕ
+stateSize = 8 * places
 
--- a state's bytes with the first n stored currents of x in them
-unfoldable pub stateWith : List ℕ → List ℤ → ℕ → List ℕ
-stateWith state x zero = state
-stateWith state x (suc n) = stored 8 (stateWith state x n) (8 * n) (ofZ w64 (reading x n))
+-- the state in a host's bytes; bytes of another length hold no stored currents
+unfoldable pub stateIn : List ℕ → State
+stateIn bytes = record { currents = cond (eqb (length bytes) stateSize) (tabulate (λ (j : ℕ). toZ w64 (littleEndian 8 bytes (8 * j))) places) [] }
 
--- the state's bytes afterwards: written only when a sample was accepted
-abbrev pub stateAfter : List ℕ → List ℤ → ℕ → List ℕ
-stateAfter state x zero = state
-stateAfter state x (suc count) = stateWith state x places
+-- the host's bytes with the first n stored currents of x in them
+unfoldable pub bytesWith : List ℕ → List ℤ → ℕ → List ℕ
+bytesWith bytes x zero = bytes
+bytesWith bytes x (suc n) = written 8 (bytesWith bytes x n) (8 * n) (ofZ w64 (reading x n))
 
--- number and count in one answer
-pub record Packed (image : List ℕ) (x : List ℤ) (n : ℕ) (drives outputs : List ℕ) (answer : ℕ) (y : List ℤ) (o : List ℕ) : Type 0 where
+-- the host's bytes afterwards: written only when a sample was accepted
+abbrev pub bytesAfter : List ℕ → State → ℕ → List ℕ
+bytesAfter bytes x zero = bytes
+bytesAfter bytes x (suc count) = bytesWith bytes (x .currents) places
+
+-- number and count in one answer, where `Comes` says what comes back
+pub record Packed (Comes : ℕ → ℕ → State → List ℕ → Type 0) (answer : ℕ) (y : State) (o : List ℕ) : Type 0 where
   pub number : ℕ
   pub count : ℕ
-  pub plays : Plays image x n drives outputs number count y o
+  pub comes : Comes number count y o
   pub packed : answer ≡ number * 65536 + count
   pub small : count < 65536
 
 -- what the call answers and leaves
-pub record Called (image state : List ℕ) (n : ℕ) (drives outputs : List ℕ) (answer : ℕ) (state′ outputs′ : List ℕ) : Type 0 where
+pub record Called (image bytes : List ℕ) (n : ℕ) (drives outputs : List ℕ) (answer : ℕ) (bytes′ outputs′ : List ℕ) : Type 0 where
   pub number : ℕ
   pub count : ℕ
-  pub after : List ℤ
-  pub plays : Plays image (storedIn state) n drives outputs number count after outputs′
+  pub after : State
+  pub plays : Plays image (stateIn bytes) n drives outputs number count after outputs′
   pub packed : answer ≡ number * 65536 + count
-  pub kept : state′ ≡ stateAfter state after count
+  pub kept : bytes′ ≡ bytesAfter bytes after count

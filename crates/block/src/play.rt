@@ -1,83 +1,79 @@
-// A block: the image is read, the state and the lengths are tested, and then its samples are played.
+// A block: an image is admitted, the state and the lengths are tested, and then the samples are played.
 use crate::lengths;
 use crate::run;
 use crate::state;
-use circuit::lines;
-use circuit::opening;
-use image::Circuit;
+use image::Parts;
+use units::number;
+use units::number::Number;
 ghost use mathlib.Core.Path.{_≡_};
-ghost use mathlib.Core.List.{List};
-ghost use Prim.Native.Nat.{ℕ, _%_};
-ghost use lib.IntN.{ℤ};
+ghost use mathlib.Core.Bool.{true};
+ghost use Prim.Native.Nat.{ℕ, _*_};
 ghost use lib.ListN.{length};
+ghost use Rattle.units.specs.Number.{numberOf};
+ghost use Rattle.image.specs.Conductance.{conductancesFit};
+ghost use Rattle.image.specs.Setting.{plain};
+ghost use Rattle.image.specs.Sound.{Sound};
+ghost use Rattle.block.specs.Block.{PlaysOn};
 ghost use Rattle.block.specs.Call.{Packed};
-ghost use Rattle.block.specs.Playing.{Opens};
+ghost use Rattle.block.specs.Playing.{Admits, stateOf};
 
-// Document 01's numbers 7 and 8 times 65,536: with a count of 0.
-const STATE_REFUSED: u64 = 458752;
+// What comes of an image: document 01's number, up to 6, and the parts if that is 0.
+pub struct Admission {
+    pub number: u64,
+    pub parts: Parts,
+}
 
-const LENGTHS_REFUSED: u64 = 524288;
-
-// A block of an accepted image, whose circuit is c.
-fn play_circuit(
-    image: &[u8],
-    c: Circuit,
-    n: u64,
-    drives: &[u8],
-    x: &mut [i64; 32],
-    outputs: &mut [u8],
-) -> u64
-    requires { ⌜ Opens (now image) c × (length (now x) ≡ 32) ⌝ }
-    ensures { λ r. ⌜ Packed (now (image .entry)) (now (x .entry)) n (now (drives .entry)) (now (outputs .entry)) r (now (x .exit)) (now (outputs .exit)) ⌝ }
+// Whether a circuit can be played from an image.
+pub fn admit(image: &[u8]) -> Admission
+    ensures { λ r. ⌜ Admits (now (image .entry)) r ⌝ }
 {
-    let board = opening::board(c);
-    if !state::legal(image, &board, x) {
-        return STATE_REFUSED;
+    let opened = image::read(image);
+    let parts = opened.parts;
+    let answer = opened.number;
+    let number = number::value(answer);
+    if number != 0 {
+        return Admission { number, parts };
     }
-    if !lengths::fit(c.driven, n, drives.len(), outputs.len()) {
-        return LENGTHS_REFUSED;
+    if image::conductances_fit(parts) {
+        return Admission { number, parts };
     }
-    let start = c.start;
-    let lines = lines::table(image, &start);
-    let steep = opening::steepest_sums(image, &board, &lines);
+    Admission {
+        number: number::value(Number::Conductance),
+        parts,
+    }
+}
+
+// An answer with no sample done.
+pub fn refused(answer: Number) -> u64
+    ensures { λ r. ⌜ r ≡ numberOf answer * 65536 ⌝ }
+{
+    number::value(answer) * 65536
+}
+
+// A block of a circuit that can be played: its number times 65,536, and the count of the samples that
+// were accepted.
+pub fn play(parts: Parts, n: u64, drives: &[u8], x: &mut [i64; 32], outputs: &mut [u8]) -> u64
+    requires { ⌜ Sound parts × (conductancesFit parts plain ≡ true) × (length (now x) ≡ 32) ⌝ }
+    ensures { λ r. ⌜ Packed (PlaysOn parts (stateOf (now (x .entry))) n (now (drives .entry)) (now (outputs .entry))) r (stateOf (now (x .exit))) (now (outputs .exit)) ⌝ }
+{
+    let mut stretches = [0i64; 408];
+    opening::stretches(parts, &mut stretches);
+    let board = opening::board(parts, &stretches);
+    if !state::legal(&board, x) {
+        return refused(Number::State);
+    }
+    if !lengths::fit(parts.driven as usize, n, drives.len(), outputs.len()) {
+        return refused(Number::Lengths);
+    }
     let mut volts = [0i64; 16];
     run::run(
-        image,
         &board,
-        &lines,
-        &steep,
-        c.output,
+        &stretches,
+        parts.output as usize,
         n as usize,
         drives,
         x,
         &mut volts,
         outputs,
     )
-}
-
-// A block of any image: its number times 65,536, and the count of the samples that were accepted.
-pub fn play(image: &[u8], n: u64, drives: &[u8], x: &mut [i64; 32], outputs: &mut [u8]) -> u64
-    requires { ⌜ length (now x) ≡ 32 ⌝ }
-    ensures { λ r. ⌜ Packed (now (image .entry)) (now (x .entry)) n (now (drives .entry)) (now (outputs .entry)) r (now (x .exit)) (now (outputs .exit)) ⌝ }
-{
-    let opened = image::read(image);
-    let answer = opened.answer;
-    let number = image::number_of(answer);
-    if number != 0 {
-        return number * 65536;
-    }
-    play_circuit(image, opened.circuit, n, drives, x, outputs)
-}
-
-// What a state of another length than 256 bytes gets: the image's number, which comes first, or 7.
-pub fn misfit(image: &[u8]) -> u64
-    ensures { λ r. ⌜ (r % 65536 ≡ 0) × ((x : List ℤ) (n : ℕ) (drives outputs : List ℕ) → (length x ≡ 32 → ⊥) → Packed (now (image .entry)) x n drives outputs r x outputs) ⌝ }
-{
-    let opened = image::read(image);
-    let answer = opened.answer;
-    let number = image::number_of(answer);
-    if number != 0 {
-        return number * 65536;
-    }
-    STATE_REFUSED
 }

@@ -1,18 +1,22 @@
 // Stored currents as a state's bytes, and whether they are legal.
 use circuit::advance;
 use circuit::board;
+use network::kind;
 use units::bytes;
 use units::signed;
 ghost use mathlib.Core.Path.{_≡_};
+ghost use mathlib.Core.List.{List};
+ghost use lib.IntN.{ℤ};
 ghost use lib.ListN.{length};
 ghost use Rattle.circuit.specs.Board.{networkOn};
 ghost use Rattle.block.specs.Block.{StateLegal, LegalAt, Decides};
-ghost use Rattle.block.specs.Call.{storedIn, stateWith};
+ghost use Rattle.block.specs.Playing.{stateOf};
+ghost use Rattle.block.specs.Call.{stateIn, bytesWith};
 
 // The stored currents in a state's bytes.
 pub fn read(state: &[u8]) -> [i64; 32]
     requires { ⌜ length (now state) ≡ 256 ⌝ }
-    ensures { λ r. ⌜ r ≡ storedIn (now (state .entry)) ⌝ }
+    ensures { λ r. ⌜ r ≡ stateIn (now (state .entry)) .currents ⌝ }
 {
     let mut x = [0i64; 32];
     let mut j: usize = 0;
@@ -26,7 +30,7 @@ pub fn read(state: &[u8]) -> [i64; 32]
 // The stored currents into a state's bytes.
 pub fn write(state: &mut [u8], x: &[i64; 32])
     requires { ⌜ length (now state) ≡ 256 ⌝ }
-    ensures { λ _. ⌜ now (state .exit) ≡ stateWith (now (state .entry)) (now (x .entry)) 32 ⌝ }
+    ensures { λ _. ⌜ now (state .exit) ≡ bytesWith (now (state .entry)) (now (x .entry)) 32 ⌝ }
 {
     let mut j: usize = 0;
     while j < 32 {
@@ -46,19 +50,16 @@ pub fn known(x: [i64; 32]) -> [i64; 32]
 fn legal_at(kind: u64, x: i64) -> bool
     ensures { λ r. ⌜ Decides r (LegalAt kind x) ⌝ }
 {
-    if kind == 2 {
-        return advance::is_kept(x);
-    }
-    if kind == 3 {
+    if kind::stores(kind) {
         return advance::is_kept(x);
     }
     signed::size(x) == 0
 }
 
 // Whether all stored currents are legal.
-pub fn legal(image: &[u8], board: &[u64; 164], x: &[i64; 32]) -> bool
+pub fn legal(board: &[u64; 212], x: &[i64; 32]) -> bool
     requires { ⌜ length (now x) ≡ 32 ⌝ }
-    ensures { λ r. ⌜ Decides r (StateLegal (networkOn (now (image .entry)) (now (board .entry))) (now (x .entry))) ⌝ }
+    ensures { λ r. ⌜ ((stretches : List ℤ) → Decides r (StateLegal (networkOn (now (board .entry)) stretches) (stateOf (now (x .entry))))) ⌝ }
 {
     let mut j: usize = 0;
     while j < 32 {

@@ -1,16 +1,21 @@
 -- What the program `bound` writes of an image. Assumes nothing.
 use mathlib.Core.Path.{_≡_}
+use mathlib.Core.Bool.{Bool, true, false}
 use mathlib.Core.List.{List, [], _∷_, _++_}
 use mathlib.Core.Logic.{_⊎_}
-use Prim.Native.Nat.{ℕ, suc, _≤_, _<_}
-use lib.ListN.{length}
+use Prim.Native.Nat.{ℕ, suc, _<_}
 use Rattle.units.specs.Integer.{roundedUp}
+use Rattle.units.specs.Number.{numberOf}
+use Rattle.units.specs.declared.number.Number.{Number}
+use Rattle.units.specs.declared.number.Number.the-variants.{Conductance}
 use Rattle.network.specs.Network.{Network, held, steepest}
 use Rattle.network.specs.Bound.{LeastEnough}
-use Rattle.image.specs.Format.{Reading}
-use Rattle.image.specs.Format as Format
-use Rattle.image.specs.Meaning.{networkOf}
-use Rattle.console.specs.Text.{Decimal, lineEnd, Then}
+use Rattle.image.specs.Conductance.{conductancesFit}
+use Rattle.image.specs.Format.{Opening, opened, refused}
+use Rattle.image.specs.Meaning.{networkAt}
+use Rattle.image.specs.Setting.{plain}
+use Rattle.image.specs.declared.parts.Parts.{Parts}
+use Rattle.console.specs.Text.{Decimal, lineEnd, refusedWord, Then}
 
 -- a number, and a space after it
 abbrev pub Column : ℕ → List ℕ → Type 0
@@ -32,19 +37,25 @@ pub data Nodes (N : Network) : ℕ → List ℕ → Type 0 where
 abbrev pub Greatest : Network → ℕ → Type 0
 Greatest N b = ((N .driven ≡ N .nodes) × (b ≡ 0)) ⊎ ((N .driven < N .nodes) × LeastEnough N 0 b)
 
--- `greatest ` and `refused `
+-- `greatest `
 abbrev pub greatestWord : List ℕ
 greatestWord = 103 ∷ 114 ∷ 101 ∷ 97 ∷ 116 ∷ 101 ∷ 115 ∷ 116 ∷ 32 ∷ []
-
-abbrev pub refusedWord : List ℕ
-refusedWord = 114 ∷ 101 ∷ 102 ∷ 117 ∷ 115 ∷ 101 ∷ 100 ∷ 32 ∷ []
 
 pub record Report (N : Network) (text : List ℕ) : Type 0 where
   pub most : ℕ
   pub is-greatest : Greatest N most
   pub told : Then (Nodes N (N .nodes)) (Then (Then (_≡_ greatestWord) (Decimal most)) (_≡_ lineEnd)) text
 
--- of any image: the report on its network, or the number by which it is refused
-abbrev pub Answered : Reading → List ℕ → Type 0
-Answered (Format.accepted parts) = Report (networkOf parts)
-Answered (Format.refused number) = Then (Then (_≡_ refusedWord) (Decimal number)) (_≡_ lineEnd)
+-- the number by which an image is refused
+abbrev pub Refusal : Number → List ℕ → Type 0
+Refusal number = Then (Then (_≡_ refusedWord) (Decimal (numberOf number))) (_≡_ lineEnd)
+
+-- of an opened image, by whether rule 6 holds: the report on its network, or that rule's number
+abbrev pub ReportOn : Parts → Bool → List ℕ → Type 0
+ReportOn parts true = Report (networkAt parts plain)
+ReportOn parts false = Refusal Conductance
+
+-- of any image: that, or the number of the rule that it was not opened by
+abbrev pub Answered : Opening → List ℕ → Type 0
+Answered (opened parts) = ReportOn parts (conductancesFit parts plain)
+Answered (refused number) = Refusal number

@@ -2,21 +2,24 @@
 use circuit::board;
 use circuit::bound;
 use circuit::bound::Bound;
-use circuit::lines;
 use circuit::node;
-use circuit::opening;
 use console::text;
-use image::Circuit;
+use image::Parts;
+use units::number;
+use units::number::Number;
 use units::signed;
 ghost use mathlib.Core.Path.{_≡_};
-ghost use Prim.Native.Nat.{ℕ, _+_, _≤_, _<_};
+ghost use mathlib.Core.Bool.{true};
+ghost use Prim.Native.Nat.{_+_, _≤_};
 ghost use lib.ListN.{length, take};
 ghost use Rattle.console.specs.Text.{Adds};
-ghost use Rattle.image.specs.Format.{readingOf};
+ghost use Rattle.image.specs.Conductance.{conductancesFit};
+ghost use Rattle.image.specs.Format.{openingOf};
+ghost use Rattle.image.specs.Meaning.{networkAt};
+ghost use Rattle.image.specs.Setting.{plain};
 ghost use Rattle.image.specs.Sound.{Sound};
-ghost use Rattle.circuit.specs.Board.{nodesOn, networkOn, Ready};
-ghost use Rattle.image.specs.Circuit.{networkIn};
-ghost use Rattle.bound.specs.Report.{Column, NodeLine, Nodes, Greatest, Report, Answered};
+ghost use Rattle.circuit.specs.Board.{nodesOn, networkOn, Laid};
+ghost use Rattle.bound.specs.Report.{Column, NodeLine, Nodes, Greatest, Report, Refusal, ReportOn, Answered};
 
 // A number and a space.
 fn put_column(text: &mut [u8], at: usize, n: u64) -> usize
@@ -31,16 +34,15 @@ fn put_column(text: &mut [u8], at: usize, n: u64) -> usize
 fn put_node(
     text: &mut [u8],
     at: usize,
-    image: &[u8],
-    board: &[u64; 164],
-    lines: &[i64; 136],
+    board: &[u64; 212],
+    stretches: &[i64; 408],
     i: usize,
 ) -> usize
-    requires { ⌜ Ready (now image) (now board) (now lines) × (at + 84 ≤ length (now text)) ⌝ }
-    ensures { λ r. ⌜ Adds (NodeLine (networkOn (now (image .entry)) (now (board .entry))) i) 84 at (now (text .entry)) r (now (text .exit)) ⌝ }
+    requires { ⌜ Laid (now board) (now stretches) × (at + 84 ≤ length (now text)) ⌝ }
+    ensures { λ r. ⌜ Adds (NodeLine (networkOn (now (board .entry)) (now (stretches .entry))) i) 84 at (now (text .entry)) r (now (text .exit)) ⌝ }
 {
-    let held = node::held(image, board, lines, i);
-    let steepest = node::steepest(image, board, lines, i);
+    let held = node::held(board, stretches, i);
+    let steepest = node::steepest(board, stretches, i);
     let least = signed::rounded_up(steepest, held);
     let a = put_column(text, at, i as u64);
     let b = put_column(text, a, held);
@@ -50,58 +52,76 @@ fn put_node(
 }
 
 // A line for each free node, at the start of `text`.
-fn put_nodes(text: &mut [u8], image: &[u8], board: &[u64; 164], lines: &[i64; 136]) -> usize
-    requires { ⌜ Ready (now image) (now board) (now lines) × (1260 ≤ length (now text)) ⌝ }
-    ensures { λ r. ⌜ Nodes (networkOn (now (image .entry)) (now (board .entry))) (nodesOn (now (board .entry))) (take r (now (text .exit))) × (r ≤ 1260) ⌝ }
+fn put_nodes(text: &mut [u8], board: &[u64; 212], stretches: &[i64; 408]) -> usize
+    requires { ⌜ Laid (now board) (now stretches) × (1260 ≤ length (now text)) ⌝ }
+    ensures { λ r. ⌜ Nodes (networkOn (now (board .entry)) (now (stretches .entry))) (nodesOn (now (board .entry))) (take r (now (text .exit))) × (r ≤ 1260) ⌝ }
 {
     let nodes = board::nodes(board);
     let mut i = board::driven(board);
     let mut end: usize = 0;
     while i < nodes {
         i += 1;
-        end = put_node(text, end, image, board, lines, i);
+        end = put_node(text, end, board, stretches, i);
     }
     end
 }
 
 // The greatest B; 0 where there is no free node.
-fn greatest(image: &[u8], board: &[u64; 164], lines: &[i64; 136]) -> u64
-    requires { ⌜ Ready (now image) (now board) (now lines) ⌝ }
-    ensures { λ r. ⌜ Greatest (networkOn (now (image .entry)) (now (board .entry))) r ⌝ }
+fn greatest(board: &[u64; 212], stretches: &[i64; 408]) -> u64
+    requires { ⌜ Laid (now board) (now stretches) ⌝ }
+    ensures { λ r. ⌜ Greatest (networkOn (now (board .entry)) (now (stretches .entry))) r ⌝ }
 {
-    match bound::least(image, board, lines, 0) {
+    match bound::least(board, stretches, 0) {
         Bound::Least(b) => b,
         Bound::Nothing => 0,
     }
 }
 
-// An accepted image's report, at the start of `text`.
-fn put_report(text: &mut [u8], image: &[u8], c: Circuit) -> usize
-    requires { ⌜ Sound (now image) c × (4096 ≤ length (now text)) ⌝ }
-    ensures { λ r. ⌜ Report (networkIn (now (image .entry)) c) (take r (now (text .exit))) × (r ≤ 4096) ⌝ }
+// The report on a circuit whose conductances are within their limits, at the start of `text`.
+fn put_report(text: &mut [u8], parts: Parts) -> usize
+    requires { ⌜ Sound parts × (conductancesFit parts plain ≡ true) × (4096 ≤ length (now text)) ⌝ }
+    ensures { λ r. ⌜ Report (networkAt parts plain) (take r (now (text .exit))) × (r ≤ 4096) ⌝ }
 {
-    let board = opening::board(c);
-    let start = c.start;
-    let lines = lines::table(image, &start);
-    let end = put_nodes(text, image, &board, &lines);
-    let most = greatest(image, &board, &lines);
+    let mut stretches = [0i64; 408];
+    opening::stretches(parts, &mut stretches);
+    let board = opening::board(parts, &stretches);
+    let end = put_nodes(text, &board, &stretches);
+    let most = greatest(&board, &stretches);
     let at = text::put_word(text, end, b"greatest ");
     let last = text::put_decimal(text, at, most);
     text::put_word(text, last, b"\n")
 }
 
+// `refused R`, at the start of `text`.
+fn put_refused(text: &mut [u8], number: Number) -> usize
+    requires { ⌜ 4096 ≤ length (now text) ⌝ }
+    ensures { λ r. ⌜ Refusal number (take r (now (text .exit))) × (r ≤ 4096) ⌝ }
+{
+    let at = text::put_word(text, 0, b"refused ");
+    let end = text::put_decimal(text, at, number::value(number));
+    text::put_word(text, end, b"\n")
+}
+
+// The report on an opened image, or rule 6's number: reading alone does not ask it.
+fn put_judged(text: &mut [u8], parts: Parts) -> usize
+    requires { ⌜ Sound parts × (4096 ≤ length (now text)) ⌝ }
+    ensures { λ r. ⌜ ReportOn parts (conductancesFit parts plain) (take r (now (text .exit))) × (r ≤ 4096) ⌝ }
+{
+    if image::conductances_fit(parts) {
+        return put_report(text, parts);
+    }
+    put_refused(text, Number::Conductance)
+}
+
 // An image's report, or `refused R`, at the start of `text`. Where it ends.
 pub fn put(text: &mut [u8], image: &[u8]) -> usize
     requires { ⌜ 4096 ≤ length (now text) ⌝ }
-    ensures { λ r. ⌜ Answered (readingOf (now (image .entry))) (take r (now (text .exit))) × (r ≤ length (now (text .exit))) ⌝ }
+    ensures { λ r. ⌜ Answered (openingOf (now (image .entry))) (take r (now (text .exit))) × (r ≤ length (now (text .exit))) ⌝ }
 {
     let opened = image::read(image);
-    let answer = opened.answer;
-    let number = image::number_of(answer);
-    if number == 0 {
-        return put_report(text, image, opened.circuit);
+    let number = opened.number;
+    match number {
+        Number::Done => put_judged(text, opened.parts),
+        _ => put_refused(text, number),
     }
-    let at = text::put_word(text, 0, b"refused ");
-    let end = text::put_decimal(text, at, number);
-    text::put_word(text, end, b"\n")
 }

@@ -1,5 +1,5 @@
 -- What a board that is ready says of its elements. Assumes nothing.
-use mathlib.Core.Path.{_≡_, refl, sym, ap}
+use mathlib.Core.Path.{_≡_, refl, sym, _∙_, ap}
 use mathlib.Core.Bool.{Bool, true, false}
 use mathlib.Core.List.{List}
 use Prim.Native.Nat.{ℕ, _+_, _*_, _^_, _≤_, _<_}
@@ -7,18 +7,17 @@ use native.Mathlib.Nat.{mul-le-mul}
 use native.Mathlib.Omega.{arith}
 use lib.Dec.{eqb}
 use lib.IntN.{ℤ, pos, negℤ, natAbs, _+ℤ_, _*ℤ_, _-ℤ_, +ℤ-idr, +ℤ-assoc}
-use borrow.Author.Tests.{eq-eqb, ne-eqb}
 use Rattle.units.specs.Integer.{sum, total}
 use Rattle.units.specs.Voltage.{Within, voltageLimit}
 use Rattle.units.proofs.Integers.{scale-one}
 use Rattle.units.proofs.Sizes.{sum-more, total-grows}
-use Rattle.network.specs.Network.{Branch, conductance, pick, reading, current, leaving, net, conductanceOf, greatest, steepestOf, heldBy, held, steepestBy, steepest, conductanceLimit, breakpointLimit, leakLimit}
-use Rattle.network.proofs.Ranges.{currentBound, difference-fits, current-fits, leaving-fits, partial-sum-small, held-fits, steepest-fits}
-use Rattle.image.specs.Curve.{curveBytes, slopesOf}
-use Rattle.image.specs.Circuit.{diodeKind}
+use Rattle.network.specs.Network.{Branch, conductance, curve, pick, reading, current, leaving, net, conductanceOf, greatest, steepestOf, heldBy, held, steepestBy, steepest, conductanceLimit, breakpointLimit, leakLimit, currentBound}
+use Rattle.network.proofs.Ranges.{difference-fits, current-fits, leaving-fits, partial-sum-small, held-fits, steepest-fits}
+use Rattle.network.specs.Kind.{hasCurve}
+use Rattle.circuit.specs.Stretch.{slopesIn, breakpointsIn, curveCurrent}
 use Rattle.circuit.specs.declared.branch.End.{End}
 use Rattle.circuit.specs.declared.branch.End.the-variants.{P, Q, Neither}
-use Rattle.circuit.specs.Board.{leakOn, nodesOn, countOn, kindOn, pOn, qOn, valueOn, branchOn, networkOn, Ready, Ranged, Evaluable, Ends, acrossOn, flowOn, heldFrom, endAt, curveCurrent}
+use Rattle.circuit.specs.Board.{leakOn, nodesOn, countOn, kindOn, pOn, qOn, conductanceOn, firstOn, breakpointsOn, branchOn, networkOn, plainConductance, Laid, Ranged, Evaluable, Ends, acrossOn, flowOn, heldFrom, endAt}
 
 -- ---- which end a node is, and what a branch has there
 
@@ -49,58 +48,68 @@ module _ {ℓ} {A : Type ℓ} (a b c : A) where
 
 -- ---- element j
 
-module _ (image board : List ℕ) (j : ℕ) where
-  -- of a diode, and of any other
-  pub diode-current : kindOn board j ≡ diodeKind → (x v : ℤ) → curveCurrent (curveBytes image (valueOn board j)) v ≡ current 1 (branchOn image board j .law) x v
-  unfolding branchOn current
-  diode-current e x v = rw (eq-eqb (kindOn board j) diodeKind e)
+module _ (board : List ℕ) (stretches : List ℤ) (j : ℕ) where
+  -- where it has a curve
+  module _ (e : hasCurve (kindOn board j) ≡ true) where
+    pub curve-law : branchOn board stretches j .law ≡ curve (slopesIn stretches (firstOn board j) (breakpointsOn board j)) (breakpointsIn stretches (firstOn board j) (breakpointsOn board j))
+    unfolding branchOn
+    curve-law = rw e
 
-  pub conductance-law : (kindOn board j ≡ diodeKind → ⊥) → branchOn image board j .law ≡ conductance (valueOn board j)
-  unfolding branchOn
-  conductance-law n = rw (ne-eqb (kindOn board j) diodeKind n)
+    pub curve-current : (x v : ℤ) → curveCurrent stretches (firstOn board j) (breakpointsOn board j) v ≡ current 1 (branchOn board stretches j .law) x v
+    unfolding current
+    curve-current x v = rw curve-law
 
-  pub conductance-current : (kindOn board j ≡ diodeKind → ⊥) → (x v : ℤ) → pos (valueOn board j) *ℤ v -ℤ x ≡ current 1 (branchOn image board j .law) x v
-  unfolding current
-  conductance-current n x v = rw (conductance-law n, scale-one x)
+    pub curve-steepest : greatest (slopesIn stretches (firstOn board j) (breakpointsOn board j)) ≡ steepestOf (branchOn board stretches j .law)
+    unfolding steepestOf
+    curve-steepest = rw curve-law
 
--- ---- conductance and steepest slope of element j
+  -- and where it has none
+  module _ (e : hasCurve (kindOn board j) ≡ false) where
+    pub conductance-law : branchOn board stretches j .law ≡ conductance (conductanceOn board j)
+    unfolding branchOn
+    conductance-law = rw e
 
-module _ (image board : List ℕ) (j : ℕ) where
-  pub diode-conductance : kindOn board j ≡ diodeKind → 0 ≡ conductanceOf (branchOn image board j .law)
+    pub conductance-current : (x v : ℤ) → pos (conductanceOn board j) *ℤ v -ℤ x ≡ current 1 (branchOn board stretches j .law) x v
+    unfolding current
+    conductance-current x v = rw (conductance-law, scale-one x)
+
+    pub conductance-steepest : conductanceOn board j ≡ steepestOf (branchOn board stretches j .law)
+    unfolding steepestOf
+    conductance-steepest = rw conductance-law
+
+  -- its conductance, whatever it is
+  pub conductance-is : plainConductance board j ≡ conductanceOf (branchOn board stretches j .law)
   unfolding branchOn conductanceOf
-  diode-conductance e = rw (eq-eqb (kindOn board j) diodeKind e)
-
-  pub other-conductance : (kindOn board j ≡ diodeKind → ⊥) → valueOn board j ≡ conductanceOf (branchOn image board j .law)
-  unfolding conductanceOf
-  other-conductance n = rw (conductance-law image board j n)
-
-  pub diode-steepest : kindOn board j ≡ diodeKind → greatest (slopesOf (curveBytes image (valueOn board j))) ≡ steepestOf (branchOn image board j .law)
-  unfolding branchOn steepestOf
-  diode-steepest e = rw (eq-eqb (kindOn board j) diodeKind e)
-
-  pub other-steepest : (kindOn board j ≡ diodeKind → ⊥) → valueOn board j ≡ steepestOf (branchOn image board j .law)
-  unfolding steepestOf
-  other-steepest n = rw (conductance-law image board j n)
+  conductance-is = go (hasCurve (kindOn board j)) refl
+    where
+      go : (t : Bool) → hasCurve (kindOn board j) ≡ t → plainConductance board j ≡ conductanceOf (branchOn board stretches j .law)
+      go true e = rw e
+      go false e = rw e
 
 -- .. at node i, by the end that it is
-module _ (image board : List ℕ) (j i : ℕ) where
+module _ (board : List ℕ) (stretches : List ℤ) (j i : ℕ) where
   abbrev b : Branch
-  b = branchOn image board j
+  b = branchOn board stretches j
 
   abbrev s : ℕ
   s = steepestOf (b .law)
 
-  pub held-p : P ≡ endAt board j i → heldFrom image board j (qOn board j) ≡ heldBy (networkOn image board) b i
-  unfolding heldBy branchOn
-  held-p e = sym (end-p (heldFrom image board j (qOn board j)) (heldFrom image board j (pOn board j)) 0 (eqb i (pOn board j)) (eqb i (qOn board j)) e)
+  held-by-is : heldBy (networkOn board stretches) b i ≡ pick (eqb i (pOn board j)) (eqb i (qOn board j)) (heldFrom board j (qOn board j)) (heldFrom board j (pOn board j)) 0
+  unfolding heldBy branchOn conductanceOf
+  held-by-is = go (hasCurve (kindOn board j)) refl
+    where
+      go : (t : Bool) → hasCurve (kindOn board j) ≡ t → heldBy (networkOn board stretches) b i ≡ pick (eqb i (pOn board j)) (eqb i (qOn board j)) (heldFrom board j (qOn board j)) (heldFrom board j (pOn board j)) 0
+      go true e = rw e
+      go false e = rw e
 
-  pub held-q : Q ≡ endAt board j i → heldFrom image board j (pOn board j) ≡ heldBy (networkOn image board) b i
-  unfolding heldBy branchOn
-  held-q e = sym (end-q (heldFrom image board j (qOn board j)) (heldFrom image board j (pOn board j)) 0 (eqb i (pOn board j)) (eqb i (qOn board j)) e)
+  pub held-p : P ≡ endAt board j i → heldFrom board j (qOn board j) ≡ heldBy (networkOn board stretches) b i
+  held-p e = sym (held-by-is ∙ end-p (heldFrom board j (qOn board j)) (heldFrom board j (pOn board j)) 0 (eqb i (pOn board j)) (eqb i (qOn board j)) e)
 
-  pub held-neither : Neither ≡ endAt board j i → 0 ≡ heldBy (networkOn image board) b i
-  unfolding heldBy branchOn
-  held-neither e = sym (end-neither (heldFrom image board j (qOn board j)) (heldFrom image board j (pOn board j)) 0 (eqb i (pOn board j)) (eqb i (qOn board j)) e)
+  pub held-q : Q ≡ endAt board j i → heldFrom board j (pOn board j) ≡ heldBy (networkOn board stretches) b i
+  held-q e = sym (held-by-is ∙ end-q (heldFrom board j (qOn board j)) (heldFrom board j (pOn board j)) 0 (eqb i (pOn board j)) (eqb i (qOn board j)) e)
+
+  pub held-neither : Neither ≡ endAt board j i → 0 ≡ heldBy (networkOn board stretches) b i
+  held-neither e = sym (held-by-is ∙ end-neither (heldFrom board j (qOn board j)) (heldFrom board j (pOn board j)) 0 (eqb i (pOn board j)) (eqb i (qOn board j)) e)
 
   pub steepest-p : P ≡ endAt board j i → s ≡ steepestBy b i
   unfolding steepestBy branchOn
@@ -114,24 +123,24 @@ module _ (image board : List ℕ) (j i : ℕ) where
   unfolding steepestBy branchOn
   steepest-neither e = sym (end-neither s s 0 (eqb i (pOn board j)) (eqb i (qOn board j)) e)
 
-module _ (image board : List ℕ) (lines : List ℤ) (ready : Ready image board lines) where
+module _ (board : List ℕ) (stretches : List ℤ) (laid : Laid board stretches) where
   pub few-nodes : nodesOn board ≤ 15
-  few-nodes = ready .limits .few-nodes
+  few-nodes = laid .limits .few-nodes
 
   pub few-elements : countOn board ≤ 32
-  few-elements = ready .limits .few-branches
+  few-elements = laid .limits .few-branches
 
   module _ (j : ℕ) (there : j < countOn board) where
-    pub conductance-fits : (kindOn board j ≡ diodeKind → ⊥) → valueOn board j ≤ conductanceLimit
-    conductance-fits n = (rw (conductance-law image board j n) at (ready .limits .laws j there)) .1
+    pub conductance-fits : hasCurve (kindOn board j) ≡ false → conductanceOn board j ≤ conductanceLimit
+    conductance-fits e = (rw (conductance-law board stretches j e) at (laid .limits .laws j there)) .1
 
     pub p-node : pOn board j ≤ nodesOn board
     unfolding branchOn
-    p-node = ready .limits .wired .p-there j there
+    p-node = laid .limits .wired .p-there j there
 
     pub q-node : qOn board j ≤ nodesOn board
     unfolding branchOn
-    q-node = ready .limits .wired .q-there j there
+    q-node = laid .limits .wired .q-there j there
 
     pub ends : (volts : List ℤ) → Ranged board volts → Ends board volts j
     ends volts ranged = record {
@@ -147,60 +156,60 @@ module _ (image board : List ℕ) (lines : List ℤ) (ready : Ready image board 
 
 -- ---- at given voltages and stored currents
 
-module _ (image board : List ℕ) (lines stored volts : List ℤ) (given : Evaluable image board lines stored volts) where
-  pub flow-fits : (j : ℕ) → j < countOn board → natAbs (flowOn image board stored volts j) ≤ currentBound
+module _ (board : List ℕ) (stretches stored volts : List ℤ) (given : Evaluable board stretches stored volts) where
+  pub flow-fits : (j : ℕ) → j < countOn board → natAbs (flowOn board stretches stored volts j) ≤ currentBound
   unfolding branchOn
-  flow-fits j there = current-fits (networkOn image board) (given .ready .limits) (reading stored) (reading volts) (given .kept) (given .ranged) j there
+  flow-fits j there = current-fits (networkOn board stretches) (given .ready .laid .limits) (reading stored) (reading volts) (given .kept) (given .ranged) j there
 
 -- what leaves node i by element j, by the end that it is
-module _ (image board : List ℕ) (stored volts : List ℤ) (j i : ℕ) where
+module _ (board : List ℕ) (stretches stored volts : List ℤ) (j i : ℕ) where
   abbrev c : ℤ
-  c = flowOn image board stored volts j
+  c = flowOn board stretches stored volts j
 
-  pub leaving-p : P ≡ endAt board j i → flowOn image board stored volts j ≡ leaving 1 (branchOn image board j) (reading stored j) (reading volts) i
+  pub leaving-p : P ≡ endAt board j i → flowOn board stretches stored volts j ≡ leaving 1 (branchOn board stretches j) (reading stored j) (reading volts) i
   unfolding leaving branchOn
   leaving-p e = sym (end-p c (negℤ c) (pos 0) (eqb i (pOn board j)) (eqb i (qOn board j)) e)
 
-  pub leaving-q : Q ≡ endAt board j i → negℤ (flowOn image board stored volts j) ≡ leaving 1 (branchOn image board j) (reading stored j) (reading volts) i
+  pub leaving-q : Q ≡ endAt board j i → negℤ (flowOn board stretches stored volts j) ≡ leaving 1 (branchOn board stretches j) (reading stored j) (reading volts) i
   unfolding leaving branchOn
   leaving-q e = sym (end-q c (negℤ c) (pos 0) (eqb i (pOn board j)) (eqb i (qOn board j)) e)
 
-  pub leaving-neither : Neither ≡ endAt board j i → pos 0 ≡ leaving 1 (branchOn image board j) (reading stored j) (reading volts) i
+  pub leaving-neither : Neither ≡ endAt board j i → pos 0 ≡ leaving 1 (branchOn board stretches j) (reading stored j) (reading volts) i
   unfolding leaving branchOn
   leaving-neither e = sym (end-neither c (negℤ c) (pos 0) (eqb i (pOn board j)) (eqb i (qOn board j)) e)
 
 -- ---- net current, as a loop over the elements adds it up
 
 -- the leak's current and those of the first n elements
-unfoldable pub netTo : (image board : List ℕ) (stored volts : List ℤ) (i n : ℕ) → ℤ
-netTo image board stored volts i n = pos (leakOn board) *ℤ reading volts i +ℤ sum (λ (j : ℕ). leaving 1 (branchOn image board j) (reading stored j) (reading volts) i) n
+unfoldable pub netTo : (board : List ℕ) (stretches stored volts : List ℤ) (i n : ℕ) → ℤ
+netTo board stretches stored volts i n = pos (leakOn board) *ℤ reading volts i +ℤ sum (λ (j : ℕ). leaving 1 (branchOn board stretches j) (reading stored j) (reading volts) i) n
 
-module _ (image board : List ℕ) (stored volts : List ℤ) (i : ℕ) where
-  pub net-none : netTo image board stored volts i 0 ≡ pos (leakOn board) *ℤ reading volts i
+module _ (board : List ℕ) (stretches stored volts : List ℤ) (i : ℕ) where
+  pub net-none : netTo board stretches stored volts i 0 ≡ pos (leakOn board) *ℤ reading volts i
   unfolding netTo sum
   net-none = +ℤ-idr _
 
-  pub net-more : (n : ℕ) → netTo image board stored volts i (n + 1) ≡ netTo image board stored volts i n +ℤ leaving 1 (branchOn image board n) (reading stored n) (reading volts) i
+  pub net-more : (n : ℕ) → netTo board stretches stored volts i (n + 1) ≡ netTo board stretches stored volts i n +ℤ leaving 1 (branchOn board stretches n) (reading stored n) (reading volts) i
   unfolding netTo
-  net-more n = rw (sum-more (λ (j : ℕ). leaving 1 (branchOn image board j) (reading stored j) (reading volts) i) n, +ℤ-assoc)
+  net-more n = rw (sum-more (λ (j : ℕ). leaving 1 (branchOn board stretches j) (reading stored j) (reading volts) i) n, +ℤ-assoc)
 
-  pub net-all : netTo image board stored volts i (countOn board) ≡ net 1 (networkOn image board) (reading stored) (reading volts) i
+  pub net-all : netTo board stretches stored volts i (countOn board) ≡ net 1 (networkOn board stretches) (reading stored) (reading volts) i
   unfolding netTo net
   net-all = refl
 
-module _ (image board : List ℕ) (lines stored volts : List ℤ) (given : Evaluable image board lines stored volts) (i : ℕ) (there : i ≤ nodesOn board) where
+module _ (board : List ℕ) (stretches stored volts : List ℤ) (given : Evaluable board stretches stored volts) (i : ℕ) (there : i ≤ nodesOn board) where
   pub leak-fits : leakOn board * natAbs (reading volts i) ≤ leakLimit * voltageLimit
-  leak-fits = mul-le-mul (given .ready .limits .leak-small) (given .ranged i there)
+  leak-fits = mul-le-mul (given .ready .laid .limits .leak-small) (given .ranged i there)
 
   -- one more element still fits
-  pub net-fits-more : (n : ℕ) → n < countOn board → natAbs (netTo image board stored volts i n) + natAbs (leaving 1 (branchOn image board n) (reading stored n) (reading volts) i) < 2 ^ 63
+  pub net-fits-more : (n : ℕ) → n < countOn board → natAbs (netTo board stretches stored volts i n) + natAbs (leaving 1 (branchOn board stretches n) (reading stored n) (reading volts) i) < 2 ^ 63
   unfolding netTo
   net-fits-more n l =
-      let N = networkOn image board in
-      let limits = given .ready .limits in
+      let N = networkOn board stretches in
+      let limits = given .ready .laid .limits in
       omega (
         arith,
-        few-elements image board lines (given .ready),
+        few-elements board stretches (given .ready .laid),
         partial-sum-small N limits (reading stored) (reading volts) (given .kept) (given .ranged) i n there (omega arith),
         leaving-fits N limits (reading stored) (reading volts) (given .kept) (given .ranged) i n l,
       )
@@ -212,24 +221,24 @@ abbrev pub added : List ℕ → (ℕ → ℕ) → ℕ → ℕ
 added board f n = leakOn board + total f n
 
 -- what element j adds to each
-abbrev pub heldEach : List ℕ → List ℕ → ℕ → ℕ → ℕ
-heldEach image board i j = heldBy (networkOn image board) (branchOn image board j) i
+abbrev pub heldEach : List ℕ → List ℤ → ℕ → ℕ → ℕ
+heldEach board stretches i j = heldBy (networkOn board stretches) (branchOn board stretches j) i
 
-abbrev pub steepestEach : List ℕ → List ℕ → ℕ → ℕ → ℕ
-steepestEach image board i j = steepestBy (branchOn image board j) i
+abbrev pub steepestEach : List ℕ → List ℤ → ℕ → ℕ → ℕ
+steepestEach board stretches i j = steepestBy (branchOn board stretches j) i
 
-module _ (image board : List ℕ) (lines : List ℤ) (ready : Ready image board lines) (i : ℕ) where
-  pub held-all : added board (heldEach image board i) (countOn board) ≡ held (networkOn image board) i
+module _ (board : List ℕ) (stretches : List ℤ) (laid : Laid board stretches) (i : ℕ) where
+  pub held-all : added board (heldEach board stretches i) (countOn board) ≡ held (networkOn board stretches) i
   unfolding held
   held-all = refl
 
-  pub steepest-all : added board (steepestEach image board i) (countOn board) ≡ steepest (networkOn image board) i
+  pub steepest-all : added board (steepestEach board stretches i) (countOn board) ≡ steepest (networkOn board stretches) i
   unfolding steepest
   steepest-all = refl
 
   -- one more element still fits
-  pub held-more-fits : (n : ℕ) → n < countOn board → added board (heldEach image board i) (n + 1) < 2 ^ 36
-  held-more-fits n l = omega (arith, total-grows (heldEach image board i) (n + 1) (countOn board) (omega arith), held-all, held-fits (networkOn image board) (ready .limits) i)
+  pub held-more-fits : (n : ℕ) → n < countOn board → added board (heldEach board stretches i) (n + 1) < 2 ^ 36
+  held-more-fits n l = omega (arith, total-grows (heldEach board stretches i) (n + 1) (countOn board) (omega arith), held-all, held-fits (networkOn board stretches) (laid .limits) i)
 
-  pub steepest-more-fits : (n : ℕ) → n < countOn board → added board (steepestEach image board i) (n + 1) < 2 ^ 36
-  steepest-more-fits n l = omega (arith, total-grows (steepestEach image board i) (n + 1) (countOn board) (omega arith), steepest-all, steepest-fits (networkOn image board) (ready .limits) i)
+  pub steepest-more-fits : (n : ℕ) → n < countOn board → added board (steepestEach board stretches i) (n + 1) < 2 ^ 36
+  steepest-more-fits n l = omega (arith, total-grows (steepestEach board stretches i) (n + 1) (countOn board) (omega arith), steepest-all, steepest-fits (networkOn board stretches) (laid .limits) i)

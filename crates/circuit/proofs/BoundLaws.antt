@@ -2,6 +2,7 @@
 use mathlib.Core.Path.{_≡_, sym, _∙_}
 use mathlib.Core.List.{List}
 use mathlib.Core.Logic.{⊎-elim}
+use lib.IntN.{ℤ}
 use Prim.Native.Nat.{ℕ, suc, _+_, _*_, _/_, _%_, _≤_, _<_}
 use native.Mathlib.Omega.{arith}
 use native.Mathlib.Nat.{add-mul, mul-comm, mul-le-mul-right, div-add-mod}
@@ -32,25 +33,25 @@ module _ (s h e : ℕ) (some : 0 < h) where
       (λ (m : c < b). absurd (omega (arith, spread, rounded-up-law (e % h + s) h some, div-add-mod e h, mul-le-mul-right h m, add-mul c 1 h))) (decideN b c)
 
 -- the least that is enough at every free node up to i
-pub record UpTo (image board : List ℕ) (e i most : ℕ) : Type 0 where
-  pub enough : (j : ℕ) → drivenOn board < j → j ≤ i → steepest (networkOn image board) j + e ≤ most * held (networkOn image board) j
-  pub least : (c : ℕ) → ((j : ℕ) → drivenOn board < j → j ≤ i → steepest (networkOn image board) j + e ≤ c * held (networkOn image board) j) → most ≤ c
+pub record UpTo (board : List ℕ) (stretches : List ℤ) (e i most : ℕ) : Type 0 where
+  pub enough : (j : ℕ) → drivenOn board < j → j ≤ i → steepest (networkOn board stretches) j + e ≤ most * held (networkOn board stretches) j
+  pub least : (c : ℕ) → ((j : ℕ) → drivenOn board < j → j ≤ i → steepest (networkOn board stretches) j + e ≤ c * held (networkOn board stretches) j) → most ≤ c
 
-module _ (image board : List ℕ) (e : ℕ) where
-  pub up-to-none : UpTo image board e (drivenOn board) 0
+module _ (board : List ℕ) (stretches : List ℤ) (e : ℕ) where
+  pub up-to-none : UpTo board stretches e (drivenOn board) 0
   up-to-none = record { enough = λ j a b. absurd (omega arith); least = λ c h. omega arith }
 
   -- one node more, whose own least is n
-  module _ (i most n most′ : ℕ) (free : drivenOn board < i + 1) (before : UpTo image board e i most) (enough : steepest (networkOn image board) (i + 1) + e ≤ n * held (networkOn image board) (i + 1)) (least : (c : ℕ) → steepest (networkOn image board) (i + 1) + e ≤ c * held (networkOn image board) (i + 1) → n ≤ c) where
-    pub up-to-more : most ≤ most′ → n ≤ most′ → ((c : ℕ) → most ≤ c → n ≤ c → most′ ≤ c) → UpTo image board e (i + 1) most′
+  module _ (i most n most′ : ℕ) (free : drivenOn board < i + 1) (before : UpTo board stretches e i most) (enough : steepest (networkOn board stretches) (i + 1) + e ≤ n * held (networkOn board stretches) (i + 1)) (least : (c : ℕ) → steepest (networkOn board stretches) (i + 1) + e ≤ c * held (networkOn board stretches) (i + 1) → n ≤ c) where
+    pub up-to-more : most ≤ most′ → n ≤ most′ → ((c : ℕ) → most ≤ c → n ≤ c → most′ ≤ c) → UpTo board stretches e (i + 1) most′
     up-to-more a b lub = record {
       enough = λ j f l. ⊎-elim
-          (λ (m : j ≤ i). omega (arith, before .enough j f m, mul-le-mul-right (held (networkOn image board) j) a))
-          (λ (m : i < j). let is : j ≡ i + 1 = omega arith in rw is (omega (arith, enough, mul-le-mul-right (held (networkOn image board) (i + 1)) b))) (decideN j i);
+          (λ (m : j ≤ i). omega (arith, before .enough j f m, mul-le-mul-right (held (networkOn board stretches) j) a))
+          (λ (m : i < j). let is : j ≡ i + 1 = omega arith in rw is (omega (arith, enough, mul-le-mul-right (held (networkOn board stretches) (i + 1)) b))) (decideN j i);
       least = λ c h. lub c (before .least c (λ j f l. h j f (omega arith))) (least c (h (i + 1) free (omega arith)));
     }
 
-  pub up-to-all : (i most : ℕ) → i ≡ nodesOn board → UpTo image board e i most → LeastEnough (networkOn image board) e most
+  pub up-to-all : (i most : ℕ) → i ≡ nodesOn board → UpTo board stretches e i most → LeastEnough (networkOn board stretches) e most
   up-to-all i most is u = record {
     enough = λ j f. u .enough j (f .0) (omega arith);
     least = λ c h. u .least c (λ j f l. h j (f, omega arith));

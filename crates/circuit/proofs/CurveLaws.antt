@@ -1,127 +1,181 @@
--- What the current of a curve and the table of its lines rest on. Assumes nothing.
+-- What the current of a curve and the table of its stretches rest on. Assumes nothing.
 use mathlib.Core.Path.{_≡_, refl, sym, _∙_, ap}
-use mathlib.Core.List.{List}
-use Prim.Native.Nat.{ℕ, suc, _+_, _*_, _^_, _≤_, _<_}
+use mathlib.Core.Bool.{cond}
+use mathlib.Core.List.{List, [], _∷_}
+use mathlib.Core.Logic.{_⊎_, inl, inr, ⊎-elim}
+use Prim.Native.Nat.{ℕ, zero, suc, _+_, _*_, _^_, _≤_, _<_, max}
+use native.Mathlib.Numerals.{add-one}
 use native.Mathlib.Omega.{arith}
 use lib.IntN.{ℤ, pos, natAbs, _+ℤ_, _-ℤ_, _*ℤ_}
-use mathlib.Core.Logic.{_⊎_, inl, inr, ⊎-elim}
-use lib.ListN.{length, getD, set, replicate, length-set, length-replicate}
-use lib.Seq.{getD-set-same, getD-set-other}
+use lib.ListN.{length, getD, drop}
+use lib.Seq.{drop-cons}
+use borrow.Author.Tests.{le-leb}
 use Rattle.units.specs.Voltage.{Within}
 use Rattle.units.proofs.Integers.{signs, add-law, sub-law, decideN}
 use Rattle.units.proofs.Sizes.{abs-add, abs-sub}
-use Rattle.network.specs.Network.{curve, reading, current, breakpointLimit, conductanceLimit}
+use Rattle.units.specs.Table.{overlaid}
+use Rattle.units.proofs.Tables.{tabulate-length, tabulate-at, overlaid-length, overlaid-at, overlaid-else}
+use Rattle.network.specs.Network.{curve, reading, current, greatest, breakpointLimit, conductanceLimit, CurveInLimits}
 use Rattle.network.proofs.Ranges.{product-fits, current-small}
-use native.Mathlib.Numerals.{add-one}
-use Rattle.image.specs.Curve.{curveBytes, slopeOf, breakpointOf, slopesOf, breakpointsOf}
-use Rattle.circuit.specs.Line.{stretchOf, offset, atZero, Whole, Step, Offset, LineAt, Filled, DrawnAt, Drawn}
-use Rattle.circuit.specs.Board.{curveCurrent, CurveReady}
-use Rattle.circuit.proofs.LineLaws.{curve-line, stretch-there}
-use Rattle.circuit.proofs.Tables.{slopes-length, breakpoints-length, slope-at, breakpoint-at}
+use Rattle.circuit.specs.Stretch.{stretchOf, offset, atZero, breakpointIn, slopeIn, atZeroIn, slopesIn, breakpointsIn, curveCurrent, CurveReady, slopesTo, breakpointsTo, rowNumber, Step, Offset, AtZero, Filled}
+use Rattle.circuit.proofs.StretchLaws.{curve-line, stretch-there}
 
-module _ (c : List ℕ) (whole : Whole c) where
-  pub few : getD c 0 0 ≤ 16
-  few = omega (arith, whole .limits .few, breakpoints-length c)
+-- ---- a curve in the table, place by place
 
-  pub slope-fits : (j : ℕ) → j ≤ getD c 0 0 → slopeOf c j ≤ conductanceLimit
-  slope-fits j h = rw (← (slope-at c j h)) (whole .limits .slope j)
+module _ (stretches : List ℤ) (first m : ℕ) where
+  pub slopes-in : length (slopesIn stretches first m) ≡ suc m
+  unfolding slopesIn
+  slopes-in = tabulate-length (λ (i : ℕ). slopeIn stretches (first + i)) (suc m)
 
-  pub breakpoint-fits : (j : ℕ) → j < getD c 0 0 → Within breakpointLimit (breakpointOf c j)
-  breakpoint-fits j h = rw (← (breakpoint-at c j h)) (whole .limits .breakpoint j)
+  pub breakpoints-in : length (breakpointsIn stretches first m) ≡ m
+  unfolding breakpointsIn
+  breakpoints-in = tabulate-length (λ (i : ℕ). breakpointIn stretches (first + i)) m
 
-  -- how far one line lies above the one before
-  pub step-is : (i : ℕ) → i < getD c 0 0 → offset (slopesOf c) (breakpointsOf c) (i + 1) ≡ offset (slopesOf c) (breakpointsOf c) i +ℤ (pos (slopeOf c i) *ℤ breakpointOf c i -ℤ pos (slopeOf c (i + 1)) *ℤ breakpointOf c i)
-  unfolding offset
-  step-is i h = rw (add-one, slope-at c i (omega arith), slope-at c (suc i) (omega arith), breakpoint-at c i h)
+  pub slope-in : (j : ℕ) → j ≤ m → getD (slopesIn stretches first m) j 0 ≡ slopeIn stretches (first + j)
+  unfolding slopesIn
+  slope-in j h = tabulate-at (λ (i : ℕ). slopeIn stretches (first + i)) (suc m) j 0 (omega arith)
 
--- offsets, one after the other
-pub offset-none : (c : List ℕ) → Offset c 0 (pos 0)
-unfolding offset
-offset-none c = record { value = refl; small = omega arith }
+  pub breakpoint-in : (j : ℕ) → j < m → reading (breakpointsIn stretches first m) j ≡ breakpointIn stretches (first + j)
+  unfolding breakpointsIn
+  breakpoint-in j h = tabulate-at (λ (i : ℕ). breakpointIn stretches (first + i)) m j (pos 0) h
 
-pub offset-more : (c : List ℕ) (i : ℕ) (o s : ℤ) → Offset c i o → Step c i s → Offset c (i + 1) (o +ℤ s)
-offset-more c i o s h t = record { value = rw (t .value, h .value); small = omega (arith, abs-add o s, h .small, t .small) }
+  -- ---- the greatest slope, looked for from the last on
 
--- lines, one after the other: from the stretch of zero volts' offset, whose line meets zero volts at no current
-pub line-none : (c : List ℕ) (z : ℕ) (o : ℤ) → z ≤ 16 → z ≡ stretchOf (breakpointsOf c) (pos 0) → Offset c z o → LineAt c 0 (pos 0 -ℤ o)
-unfolding offset
-line-none c z o l e h = record { value = rw (h .value, e); small = omega (arith, abs-sub (pos 0) o, h .small) }
-
-pub line-more : (c : List ℕ) (i : ℕ) (r s : ℤ) → LineAt c i r → Step c i s → LineAt c (i + 1) (r +ℤ s)
-line-more c i r s h t =
-    let a = offset (slopesOf c) (breakpointsOf c) i in
-    let b = offset (slopesOf c) (breakpointsOf c) (stretchOf (breakpointsOf c) (pos 0)) in
-    record {
-      value = rw (t .value, h .value) (omega (signs, add-law (a -ℤ b) s, sub-law a b, sub-law (a +ℤ s) b, add-law a s));
-      small = omega (arith, abs-add r s, h .small, t .small);
-    }
-
--- .. and in the table
-module _ (c : List ℕ) (before : List ℤ) (at : ℕ) where
-  pub filled-none : Filled c before at 0 before
-  filled-none = record { long = refl; line = λ i h. absurd (omega arith); elsewhere = λ t h. refl }
-
-  pub filled-more : (n : ℕ) (after : List ℤ) (r : ℤ) → at + n < length before → LineAt c n r → Filled c before at n after → Filled c before at (n + 1) (set after (at + n) r)
-  filled-more n after r there l f = record {
-    long = simp length-set (f .long);
-    line = λ i h. ⊎-elim
-        (λ (m : n ≤ i). let e : i ≡ n = omega arith in rw e (getD-set-same after (at + n) r (pos 0) (omega (arith, f .long)) ∙ l .value))
-        (λ (m : i < n). getD-set-other after (at + n) (at + i) r (pos 0) (λ e. omega arith) ∙ f .line i m) (decideN n i);
-    elsewhere = λ t h. getD-set-other after (at + n) t r (pos 0) (λ e. apart t h e) ∙ f .elsewhere t (⊎-elim (λ (a : t < at). inl a) (λ (a : at + (n + 1) ≤ t). inr (omega arith)) h);
-  }
+  pub greatest-none : (i : ℕ) → i ≡ suc m → 0 ≡ greatest (drop i (slopesIn stretches first m))
+  unfolding greatest
+  greatest-none i e = rw (drop-past i (slopesIn stretches first m) (omega (arith, slopes-in)))
     where
-      apart : (t : ℕ) → (t < at) ⊎ (at + (n + 1) ≤ t) → t ≡ at + n → ⊥
-      apart t (inl a) e = omega arith
-      apart t (inr a) e = omega arith
+      drop-past : (i : ℕ) (l : List ℕ) → length l ≤ i → drop i l ≡ []
+      drop-past zero [] h = refl
+      drop-past zero (a ∷ l) h = absurd (omega arith)
+      drop-past (suc i) [] h = refl
+      drop-past (suc i) (a ∷ l) h = drop-past i l (omega arith)
 
-module _ (c : List ℕ) (lines : List ℤ) (at : ℕ) (ready : CurveReady c lines at) where
-  -- j is the stretch that v lies in
-  module _ (v : ℤ) where
-    pub stretch-few : stretchOf (breakpointsOf c) v ≤ getD c 0 0
-    stretch-few = omega (arith, stretch-there (breakpointsOf c) v, breakpoints-length c)
+  pub greatest-more : (i : ℕ) → i ≤ m → max (slopeIn stretches (first + i)) (greatest (drop (suc i) (slopesIn stretches first m))) ≡ greatest (drop i (slopesIn stretches first m))
+  unfolding greatest
+  greatest-more i h = rw (drop-cons (slopesIn stretches first m) i 0 (omega (arith, slopes-in)), slope-in i h)
+
+  -- ---- its current at v, j being the stretch that v lies in
+
+  module _ (ready : CurveReady stretches first m) (v : ℤ) where
+    pub stretch-few : stretchOf (breakpointsIn stretches first m) v ≤ m
+    stretch-few = omega (arith, stretch-there (breakpointsIn stretches first m) v, breakpoints-in)
+
+    pub slope-fits : (j : ℕ) → j ≤ m → slopeIn stretches (first + j) ≤ conductanceLimit
+    slope-fits j h = rw (← (slope-in j h)) (ready .limits .slope j)
 
     -- the line that the code draws is the curve's
-    pub line-is : (j : ℕ) → j ≡ stretchOf (breakpointsOf c) v → pos (slopeOf c j) *ℤ v +ℤ reading lines (at + j) ≡ curveCurrent c v
+    pub line-is : (j : ℕ) → j ≡ stretchOf (breakpointsIn stretches first m) v → pos (slopeIn stretches (first + j)) *ℤ v +ℤ atZeroIn stretches (first + j) ≡ curveCurrent stretches first m v
     line-is j e =
-        let there = stretch-few in
-        let l : length (slopesOf c) ≡ suc (length (breakpointsOf c)) = omega (arith, slopes-length c, breakpoints-length c) in
-        rw (e, ready .line (stretchOf (breakpointsOf c) v) there, ← (slope-at c (stretchOf (breakpointsOf c) v) there)) (sym (curve-line (slopesOf c) (breakpointsOf c) (pos 0) v l (ready .whole .rising)))
+        let there : j ≤ m = omega (arith, stretch-few) in
+        rw (ready .at-zero j there, ← (slope-in j there), e) (sym (curve-line (slopesIn stretches first m) (breakpointsIn stretches first m) (pos 0) v (ready .limits .stretches) (ready .limits .rising)))
 
-    pub line-fits : Within breakpointLimit v → (j : ℕ) → j ≡ stretchOf (breakpointsOf c) v → natAbs (pos (slopeOf c j) *ℤ v) + natAbs (reading lines (at + j)) < 2 ^ 63
+    pub line-fits : Within breakpointLimit v → (j : ℕ) → j ≡ stretchOf (breakpointsIn stretches first m) v → natAbs (pos (slopeIn stretches (first + j)) *ℤ v) + natAbs (atZeroIn stretches (first + j)) < 2 ^ 63
     line-fits near j e =
-        let a = pos (slopeOf c j) *ℤ v in
-        let z = reading lines (at + j) in
-        let k = curveCurrent c v in
+        let a = pos (slopeIn stretches (first + j)) *ℤ v in
+        let z = atZeroIn stretches (first + j) in
+        let k = curveCurrent stretches first m v in
         let is : k -ℤ a ≡ z = omega (signs, line-is j e, sub-law k a, add-law a z) in
         omega (
           arith,
-          product-fits (slopeOf c j) v (slope-fits c (ready .whole) j (omega (arith, stretch-few))) near,
-          current-small (curve (slopesOf c) (breakpointsOf c)) (pos 0) v (ready .whole .limits) near (omega arith),
+          product-fits (slopeIn stretches (first + j)) v (slope-fits j (omega (arith, stretch-few))) near,
+          current-small (curve (slopesIn stretches first m) (breakpointsIn stretches first m)) (pos 0) v (ready .limits) near (omega arith),
           abs-sub k a,
           ap natAbs is,
         )
 
--- ---- the table of all curves
+-- ---- a curve in arrays of its own, from which the table is filled
 
-module _ (image : List ℕ) where
-  pub drawn-nowhere : (start at : ℕ) (table : List ℤ) → start ≤ 0 → DrawnAt image start at table table
-  drawn-nowhere start at table z = record { long = refl; line = λ s i h. absurd (omega arith); elsewhere = λ t h. refl }
+module _ (slopes : List ℕ) (breakpoints : List ℤ) (m : ℕ) where
+  abbrev ss : List ℕ
+  ss = slopesTo slopes m
 
-  pub drawn-here : (start at : ℕ) (before after : List ℤ) → Whole (curveBytes image start) → Filled (curveBytes image start) before at (getD (curveBytes image start) 0 0 + 1) after → DrawnAt image start at before after
-  drawn-here start at before after w f = record {
-    long = f .long;
-    line = λ s i h. f .line i (omega arith);
-    elsewhere = λ t h. f .elsewhere t (⊎-elim (λ (a : t < at). inl a) (λ (a : at + 17 ≤ t). inr (omega (arith, few (curveBytes image start) w))) h);
-  }
+  abbrev bs : List ℤ
+  bs = breakpointsTo breakpoints m
 
-  module _ (start : List ℕ) where
-    pub drawn-none : Drawn image start 0 (replicate 136 (pos 0))
-    drawn-none = record { long = length-replicate 136 (pos 0); line = λ n h. absurd (omega arith) }
+  pub slope-to : (j : ℕ) → j ≤ m → getD ss j 0 ≡ getD slopes j 0
+  unfolding slopesTo
+  slope-to j h = tabulate-at (λ (i : ℕ). getD slopes i 0) (suc m) j 0 (omega arith)
 
-    pub drawn-more : ((k : ℕ) → 0 < getD start k 0 → Whole (curveBytes image (getD start k 0))) → (k : ℕ) (before after : List ℤ) → DrawnAt image (getD start k 0) (17 * k) before after → Drawn image start k before → Drawn image start (k + 1) after
-    drawn-more wholes k before after here d = record {
-      long = here .long ∙ d .long;
-      line = λ n h s i l. ⊎-elim
-          (λ (m : k ≤ n). let e : n ≡ k = omega arith in rw e (here .line (rw e at s) i (rw e at l)))
-          (λ (m : n < k). here .elsewhere (17 * n + i) (inl (omega (arith, few (curveBytes image (getD start n 0)) (wholes n s)))) ∙ d .line n m s i l) (decideN k n);
+  pub breakpoint-to : (j : ℕ) → j < m → reading bs j ≡ reading breakpoints j
+  unfolding breakpointsTo
+  breakpoint-to j h = tabulate-at (reading breakpoints) m j (pos 0) h
+
+  pub breakpoints-to : length bs ≡ m
+  unfolding breakpointsTo
+  breakpoints-to = tabulate-length (reading breakpoints) m
+
+  module _ (limits : CurveInLimits ss bs) where
+    pub few : m ≤ 16
+    few = omega (arith, limits .few, breakpoints-to)
+
+    pub slope-small : (j : ℕ) → j ≤ m → getD slopes j 0 ≤ conductanceLimit
+    slope-small j h = rw (← (slope-to j h)) (limits .slope j)
+
+    pub breakpoint-small : (j : ℕ) → j < m → Within breakpointLimit (reading breakpoints j)
+    breakpoint-small j h = rw (← (breakpoint-to j h)) (limits .breakpoint j)
+
+    -- how far one line lies above the one before
+    pub step-is : (i : ℕ) → i < m → offset ss bs (i + 1) ≡ offset ss bs i +ℤ (pos (getD slopes i 0) *ℤ reading breakpoints i -ℤ pos (getD slopes (i + 1) 0) *ℤ reading breakpoints i)
+    unfolding offset
+    step-is i h = rw (add-one, slope-to i (omega arith), slope-to (suc i) (omega arith), breakpoint-to i h)
+
+module _ (ss : List ℕ) (bs : List ℤ) where
+  -- offsets, one after the other
+  pub offset-none : Offset ss bs 0 (pos 0)
+  unfolding offset
+  offset-none = record { value = refl; small = omega arith }
+
+  pub offset-more : (i : ℕ) (o s : ℤ) → Offset ss bs i o → Step ss bs i s → Offset ss bs (i + 1) (o +ℤ s)
+  offset-more i o s h t = record { value = rw (t .value, h .value); small = omega (arith, abs-add o s, h .small, t .small) }
+
+  -- currents at zero volts, one after the other: from the offset of zero volts' own stretch, whose line has none there
+  pub zero-none : (z : ℕ) (o : ℤ) → z ≤ 16 → z ≡ stretchOf bs (pos 0) → Offset ss bs z o → AtZero ss bs 0 (pos 0 -ℤ o)
+  unfolding offset atZero
+  zero-none z o l e h = record { value = rw (h .value, e); small = omega (arith, abs-sub (pos 0) o, h .small) }
+
+  pub zero-more : (i : ℕ) (r s : ℤ) → AtZero ss bs i r → Step ss bs i s → AtZero ss bs (i + 1) (r +ℤ s)
+  unfolding atZero
+  zero-more i r s h t =
+      let a = offset ss bs i in
+      let b = offset ss bs (stretchOf bs (pos 0)) in
+      record {
+        value = rw (t .value, h .value) (omega (signs, add-law (a -ℤ b) s, sub-law a b, sub-law (a +ℤ s) b, add-law a s));
+        small = omega (arith, abs-add r s, h .small, t .small);
+      }
+
+  -- .. and their rows
+  pub row-at-zero : (i : ℕ) (r : ℤ) → i ≤ length bs → AtZero ss bs i r → r ≡ rowNumber ss bs i 2
+  unfolding rowNumber
+  row-at-zero i r h z = rw (le-leb i (length bs) h) (z .value)
+
+  module _ (before : List ℤ) (first : ℕ) where
+    pub filled-none : Filled ss bs before first 0 before
+    filled-none = record { long = refl; row = λ i k h. absurd (omega arith); elsewhere = λ t h. refl }
+
+    -- one row more
+    pub filled-more : (n : ℕ) (after : List ℤ) (b g z : ℤ) → 3 * (first + n) + 2 < length before → b ≡ rowNumber ss bs n 0 → g ≡ rowNumber ss bs n 1 → z ≡ rowNumber ss bs n 2 → Filled ss bs before first n after → Filled ss bs before first (n + 1) (overlaid after (3 * (first + n)) (b ∷ g ∷ z ∷ []))
+    filled-more n after b g z there isB isG isZ f = record {
+      long = overlaid-length after at row ∙ f .long;
+      row = λ i k h l. ⊎-elim (λ (q : n ≤ i). let e : i ≡ n = omega arith in rw e (overlaid-at after at row (pos 0) k _ (omega (arith, f .long)) l refl ∙ here k l)) (λ (q : i < n). other (3 * (first + i) + k) (inl (omega arith)) ∙ f .row i k q l) (decideN n i);
+      elsewhere = λ t h. other t (⊎-elim (λ (q : t < 3 * first). inl (omega arith)) (λ (q : 3 * (first + (n + 1)) ≤ t). inr (omega arith)) h) ∙ f .elsewhere t (⊎-elim (λ (q : t < 3 * first). inl q) (λ (q : 3 * (first + (n + 1)) ≤ t). inr (omega arith)) h);
     }
+      where
+        at : ℕ
+        at = 3 * (first + n)
+
+        row : List ℤ
+        row = b ∷ g ∷ z ∷ []
+
+        other : (t : ℕ) → (t < at) ⊎ (at + 3 ≤ t) → reading (overlaid after at row) t ≡ reading after t
+        other t h = overlaid-else after at row (pos 0) t h
+
+        here : (k : ℕ) → k < 3 → getD row k (pos 0) ≡ rowNumber ss bs n k
+        here zero l = isB
+        here (suc zero) l = isG
+        here (suc (suc zero)) l = isZ
+        here (suc (suc (suc k))) l = absurd (omega arith)
+
+    -- all of them
+    pub filled-all : (n m : ℕ) (after : List ℤ) → n ≡ m → Filled ss bs before first (n + 1) after → Filled ss bs before first (m + 1) after
+    filled-all n m after e f = rw (← e) f

@@ -1,4 +1,4 @@
--- The promises that are no equation admit one outcome: the advance's and the least bound's. Assumes nothing.
+-- The advance's promise and the least bound's are no equations, and admit one outcome. Assumes nothing.
 use mathlib.Core.Path.{_≡_, refl, sym, _∙_, ap}
 use mathlib.Core.Bool.{true, false}
 use mathlib.Core.List.{List}
@@ -19,16 +19,16 @@ use Rattle.circuit.specs.declared.bound.Bound.the-variants.{Least, Nothi
 
 -- ---- the advance
 
-module _ (image board : List ℕ) (volts before : List ℤ) where
-  not-both : AllKept image board volts before true → AllKept image board volts before false → ⊥
+module _ (board : List ℕ) (stretches volts before : List ℤ) where
+  not-both : AllKept board stretches volts before true → AllKept board stretches volts before false → ⊥
   not-both all one = omega (arith, all (one .0) (one .1), one .2)
 
-  stored-once : (a b : List ℤ) → StoredTo image board volts before (countOn board) a → StoredTo image board volts before (countOn board) b → a ≡ b
+  stored-once : (a b : List ℤ) → StoredTo board stretches volts before (countOn board) a → StoredTo board stretches volts before (countOn board) b → a ≡ b
   stored-once a b p q = ext-getD (pos 0) a b (p .long ∙ sym (q .long)) (λ j h. ⊎-elim
       (λ (l : countOn board ≤ j). p .old j l ∙ sym (q .old j l))
       (λ (l : j < countOn board). p .new j l ∙ sym (q .new j l)) (decideN (countOn board) j))
 
-  pub advance-once : (r s : Advanced) (a b : List ℤ) → Advancing image board volts before r a → Advancing image board volts before s b → (r ≡ s) × (a ≡ b)
+  pub advance-once : (r s : Advanced) (a b : List ℤ) → Advancing board stretches volts before r a → Advancing board stretches volts before s b → (r ≡ s) × (a ≡ b)
   advance-once Stored Stored a b p q = (refl, stored-once a b (p .1) (q .1))
   advance-once Stored Beyond a b p q = absurd (not-both (p .0) (q .0))
   advance-once Beyond Stored a b p q = absurd (not-both (q .0) (p .0))
@@ -40,13 +40,13 @@ abbrev pub Fitting : Bound → Type 0
 Fitting (Least b) = b < 2 ^ 64
 Fitting Nothing = 0 < 2 ^ 64
 
-module _ (image board : List ℕ) (e : ℕ) where
-  none-else : (b : ℕ) → b < 2 ^ 64 → Bounding image board e (Least b) → Bounding image board e Nothing → ⊥
+module _ (board : List ℕ) (stretches : List ℤ) (e : ℕ) where
+  none-else : (b : ℕ) → b < 2 ^ 64 → Bounding board stretches e (Least b) → Bounding board stretches e Nothing → ⊥
   none-else b fits p n = ⊎-elim
       (λ (d : drivenOn board ≡ nodesOn board). omega (arith, d, p .0))
-      (λ (none : (c : ℕ) → Enough (networkOn image board) e c → 2 ^ 64 ≤ c). omega (arith, none b (p .1 .enough), fits)) n
+      (λ (none : (c : ℕ) → Enough (networkOn board stretches) e c → 2 ^ 64 ≤ c). omega (arith, none b (p .1 .enough), fits)) n
 
-  pub least-once : (r s : Bound) → Fitting r → Fitting s → Bounding image board e r → Bounding image board e s → r ≡ s
+  pub least-once : (r s : Bound) → Fitting r → Fitting s → Bounding board stretches e r → Bounding board stretches e s → r ≡ s
   least-once (Least b) (Least c) f g p q =
       let same : b ≡ c = omega (arith, p .1 .least c (q .1 .enough), q .1 .least b (p .1 .enough)) in
       ap Least same

@@ -1,20 +1,24 @@
--- The board: a circuit's numbers in one array, as the functions that run for each sample borrow it. Assumes nothing.
--- Places 0 to 3: leak, nodes, driven nodes, elements. Then five places for each element: kind, end p, end q, its value (the conductance,
--- or for a diode where its curve starts in the image), and for a diode where its curve's lines start in the table of lines.
+-- The board: a circuit's numbers in one array, as the functions that run for each sample borrow it, and beside it the table of its curves'
+-- stretches (Stretch). Assumes nothing.
+-- Places 0 to 3: leak, nodes, driven nodes, elements. Then the steepest sum of every node. Then six places for each element: kind, end p,
+-- end q, conductance (0 where it has a curve), and for a curve the row of its first stretch and how many breakpoints it has.
 use mathlib.Core.Path.{_≡_}
+use mathlib.Core.Bool.{true, cond}
 use mathlib.Core.List.{List}
 use Prim.Native.Nat.{ℕ, _+_, _*_, _≤_, _<_}
 use lib.IntN.{ℤ, pos, _-ℤ_}
-use mathlib.Core.Bool.{cond}
 use lib.Dec.{eqb, leb}
 use lib.ListN.{length, getD}
 use Rattle.units.specs.Voltage.{Within, InRange}
-use Rattle.network.specs.Network.{curve, current, conductanceOf, pick, Branch, Network, reading, InLimits, storedLimit}
-use Rattle.image.specs.Curve.{breakpointsAt, curveLength, curveBytes, slopesOf, breakpointsOf}
-use Rattle.image.specs.Circuit.{diodeKind, lawOf, storeOf}
+use Rattle.network.specs.Network.{Law, curve, conductance, current, pick, Branch, Network, Free, reading, steepest, InLimits, storedLimit}
+use Rattle.network.specs.Kind.{hasCurve, storeOf}
 use Rattle.circuit.specs.declared.branch.End.{End}
 use Rattle.circuit.specs.declared.branch.End.the-variants.{P, Q, Neither}
-use Rattle.circuit.specs.Line.{atZero, Whole}
+use Rattle.circuit.specs.Stretch.{slopesIn, breakpointsIn, CurveReady}
+
+-- how many places it has
+abbrev pub boardSize : ℕ
+boardSize = 212
 
 abbrev pub leakOn : List ℕ → ℕ
 leakOn board = getD board 0 0
@@ -28,62 +32,62 @@ drivenOn board = getD board 2 0
 abbrev pub countOn : List ℕ → ℕ
 countOn board = getD board 3 0
 
+abbrev pub steepestOn : List ℕ → ℕ → ℕ
+steepestOn board i = getD board (4 + i) 0
+
 abbrev pub kindOn : List ℕ → ℕ → ℕ
-kindOn board j = getD board (4 + 5 * j) 0
+kindOn board j = getD board (20 + 6 * j) 0
 
 abbrev pub pOn : List ℕ → ℕ → ℕ
-pOn board j = getD board (5 + 5 * j) 0
+pOn board j = getD board (21 + 6 * j) 0
 
 abbrev pub qOn : List ℕ → ℕ → ℕ
-qOn board j = getD board (6 + 5 * j) 0
+qOn board j = getD board (22 + 6 * j) 0
 
-abbrev pub valueOn : List ℕ → ℕ → ℕ
-valueOn board j = getD board (7 + 5 * j) 0
+abbrev pub conductanceOn : List ℕ → ℕ → ℕ
+conductanceOn board j = getD board (23 + 6 * j) 0
 
-abbrev pub linesOn : List ℕ → ℕ → ℕ
-linesOn board j = getD board (8 + 5 * j) 0
+abbrev pub firstOn : List ℕ → ℕ → ℕ
+firstOn board j = getD board (24 + 6 * j) 0
+
+abbrev pub breakpointsOn : List ℕ → ℕ → ℕ
+breakpointsOn board j = getD board (25 + 6 * j) 0
 
 -- element j as a branch, and the network
-unfoldable pub branchOn : List ℕ → List ℕ → ℕ → Branch
-branchOn image board j = record {
-  p = pOn board j;
-  q = qOn board j;
-  law = lawOf (kindOn board j) (valueOn board j) (curveBytes image (valueOn board j));
-  store = storeOf (kindOn board j);
-}
+abbrev pub lawOn : List ℕ → List ℤ → ℕ → Law
+lawOn board stretches j =
+    cond (hasCurve (kindOn board j))
+    (curve (slopesIn stretches (firstOn board j) (breakpointsOn board j)) (breakpointsIn stretches (firstOn board j) (breakpointsOn board j)))
+    (conductance (conductanceOn board j))
 
-abbrev pub networkOn : List ℕ → List ℕ → Network
-networkOn image board = record {
+unfoldable pub branchOn : List ℕ → List ℤ → ℕ → Branch
+branchOn board stretches j = record { p = pOn board j; q = qOn board j; law = lawOn board stretches j; store = storeOf (kindOn board j) }
+
+abbrev pub networkOn : List ℕ → List ℤ → Network
+networkOn board stretches = record {
   leak = leakOn board;
   nodes = nodesOn board;
   driven = drivenOn board;
   count = countOn board;
-  branch = branchOn image board;
+  branch = branchOn board stretches;
 }
 
--- what flows through a curve with these bytes at v
-abbrev pub curveCurrent : List ℕ → ℤ → ℤ
-curveCurrent bytes v = current 1 (curve (slopesOf bytes) (breakpointsOf bytes)) (pos 0) v
+-- the conductance of element j, and if the other end is ground or a driven node
+abbrev pub plainConductance : List ℕ → ℕ → ℕ
+plainConductance board j = cond (hasCurve (kindOn board j)) 0 (conductanceOn board j)
 
--- the conductance of element j, if the other end is ground or a driven node
-abbrev pub heldFrom : List ℕ → List ℕ → ℕ → ℕ → ℕ
-heldFrom image board j other = cond (leb other (drivenOn board)) (conductanceOf (branchOn image board j .law)) 0
+abbrev pub heldFrom : List ℕ → ℕ → ℕ → ℕ
+heldFrom board j other = cond (leb other (drivenOn board)) (plainConductance board j) 0
 
--- a whole curve, with its lines in the table from `at` on
-pub record CurveReady (bytes : List ℕ) (lines : List ℤ) (at : ℕ) : Type 0 where
-  pub whole : Whole bytes
-  pub lines-there : at + 17 ≤ 136
-  pub line : (i : ℕ) → i ≤ getD bytes 0 0 → reading lines (at + i) ≡ atZero (slopesOf bytes) (breakpointsOf bytes) i
+-- a board that means a network within document 01's limits, every curve with its stretches
+pub record Laid (board : List ℕ) (stretches : List ℤ) : Type 0 where
+  pub limits : InLimits (networkOn board stretches)
+  pub curves : (j : ℕ) → j < countOn board → hasCurve (kindOn board j) ≡ true → CurveReady stretches (firstOn board j) (breakpointsOn board j)
 
--- a diode's curve lies in the image and is ready
-pub record DiodeReady (image board : List ℕ) (lines : List ℤ) (j : ℕ) : Type 0 where
-  pub there : valueOn board j + curveLength (breakpointsAt image (valueOn board j)) ≤ length image
-  pub ready : CurveReady (curveBytes image (valueOn board j)) lines (linesOn board j)
-
--- what the functions over a board ask: a network within document 01's limits, and every diode's curve with its lines
-pub record Ready (image board : List ℕ) (lines : List ℤ) : Type 0 where
-  pub limits : InLimits (networkOn image board)
-  pub diode : (j : ℕ) → j < countOn board → kindOn board j ≡ diodeKind → DiodeReady image board lines j
+-- .. and has what was computed from it: the free nodes' steepest sums. What every function of a sample asks
+pub record Ready (board : List ℕ) (stretches : List ℤ) : Type 0 where
+  pub laid : Laid board stretches
+  pub steepest-sums : (i : ℕ) → Free (networkOn board stretches) i → steepestOn board i ≡ steepest (networkOn board stretches) i
 
 -- .. of voltages, and of stored currents
 abbrev pub Ranged : List ℕ → List ℤ → Type 0
@@ -93,8 +97,8 @@ abbrev pub Kept : List ℕ → List ℤ → Type 0
 Kept board stored = (j : ℕ) → j < countOn board → Within storedLimit (reading stored j)
 
 -- all that a current is made of
-pub record Evaluable (image board : List ℕ) (lines stored volts : List ℤ) : Type 0 where
-  pub ready : Ready image board lines
+pub record Evaluable (board : List ℕ) (stretches stored volts : List ℤ) : Type 0 where
+  pub ready : Ready board stretches
   pub kept : Kept board stored
   pub ranged : Ranged board volts
 
@@ -111,8 +115,8 @@ abbrev pub acrossOn : List ℕ → List ℤ → ℕ → ℤ
 acrossOn board volts j = reading volts (pOn board j) -ℤ reading volts (qOn board j)
 
 -- its current
-abbrev pub flowOn : List ℕ → List ℕ → List ℤ → List ℤ → ℕ → ℤ
-flowOn image board stored volts j = current 1 (branchOn image board j .law) (reading stored j) (acrossOn board volts j)
+abbrev pub flowOn : List ℕ → List ℤ → List ℤ → List ℤ → ℕ → ℤ
+flowOn board stretches stored volts j = current 1 (branchOn board stretches j .law) (reading stored j) (acrossOn board volts j)
 
 -- which end of element j node i is
 abbrev pub endAt : List ℕ → ℕ → ℕ → End

@@ -2,6 +2,7 @@
 use mathlib.Core.Path.{_≡_}
 use mathlib.Core.List.{List}
 use mathlib.Core.Logic.{_⊎_}
+use lib.IntN.{ℤ}
 use Prim.Native.Nat.{ℕ, _+_, _*_, _^_, _≤_, _<_}
 use Rattle.network.specs.Bound.{Enough, LeastEnough}
 use Rattle.circuit.specs.Board.{nodesOn, drivenOn, networkOn}
@@ -14,6 +15,6 @@ AtNode steepest held e (Least b) = (steepest + e ≤ b * held) × ((c : ℕ) →
 AtNode steepest held e Nothing = (c : ℕ) → steepest + e ≤ c * held → 2 ^ 64 ≤ c
 
 -- over all free nodes; none where there is no free node or the least does not fit
-abbrev pub Bounding : List ℕ → List ℕ → ℕ → Bound → Type 0
-Bounding image board e (Least b) = (drivenOn board < nodesOn board) × LeastEnough (networkOn image board) e b
-Bounding image board e Nothing = (drivenOn board ≡ nodesOn board) ⊎ ((c : ℕ) → Enough (networkOn image board) e c → 2 ^ 64 ≤ c)
+abbrev pub Bounding : List ℕ → List ℤ → ℕ → Bound → Type 0
+Bounding board stretches e (Least b) = (drivenOn board < nodesOn board) × LeastEnough (networkOn board stretches) e b
+Bounding board stretches e Nothing = (drivenOn board ≡ nodesOn board) ⊎ ((c : ℕ) → Enough (networkOn board stretches) e c → 2 ^ 64 ≤ c)

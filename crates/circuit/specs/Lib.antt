@@ -1,5 +1,4 @@
 pub mod Advance
 pub mod Board
 pub mod Bound
-pub mod Line
-pub mod Opening
+pub mod Stretch

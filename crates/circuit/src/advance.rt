@@ -1,6 +1,7 @@
 // The advance of stored currents from one sample to the next. All are tested before any is stored.
 use crate::board;
 use crate::branch;
+use network::kind;
 use units::signed;
 ghost use mathlib.Core.Path.{_≡_};
 ghost use Prim.Native.Nat.{ℕ, _<_};
@@ -8,7 +9,7 @@ ghost use lib.IntN.{ℤ};
 ghost use lib.ListN.{length};
 ghost use Rattle.units.specs.Voltage.{Within, within};
 ghost use Rattle.network.specs.Network.{storedLimit};
-ghost use Rattle.circuit.specs.Board.{countOn, Ready, Ranged, Evaluable};
+ghost use Rattle.circuit.specs.Board.{countOn, Laid, Ranged, Evaluable};
 ghost use Rattle.circuit.specs.Advance.{Twice, nextOn, AllKept, StoredTo, Advancing};
 
 // The limit of a stored current, in femtoamperes.
@@ -29,53 +30,45 @@ pub enum Advanced {
 }
 
 // Twice what the conductance of element j carries at its voltage.
-fn twice(image: &[u8], board: &[u64; 164], lines: &[i64; 136], volts: &[i64; 16], j: usize) -> i64
-    requires { ⌜ Ready (now image) (now board) (now lines) × Ranged (now board) (now volts) × (j < countOn (now board)) ⌝ }
-    ensures { λ r. ⌜ Twice (now (image .entry)) (now (board .entry)) (now (volts .entry)) j r ⌝ }
+fn twice(board: &[u64; 212], stretches: &[i64; 408], volts: &[i64; 16], j: usize) -> i64
+    requires { ⌜ Laid (now board) (now stretches) × Ranged (now board) (now volts) × (j < countOn (now board)) ⌝ }
+    ensures { λ r. ⌜ Twice (now (board .entry)) (now (volts .entry)) j r ⌝ }
 {
     signed::times(
-        signed::whole(2 * branch::conductance(image, board, j)),
+        signed::whole(2 * branch::conductance(board, j)),
         branch::across(board, volts, j),
     )
 }
 
 // The stored current of element j after a sample, x being the one before it.
-fn next(
-    image: &[u8],
-    board: &[u64; 164],
-    lines: &[i64; 136],
-    volts: &[i64; 16],
-    j: usize,
-    x: i64,
-) -> i64
-    requires { ⌜ Ready (now image) (now board) (now lines) × Ranged (now board) (now volts) × (j < countOn (now board)) × Within storedLimit x ⌝ }
-    ensures { λ r. ⌜ r ≡ nextOn (now (image .entry)) (now (board .entry)) (now (volts .entry)) j x ⌝ }
+fn next(board: &[u64; 212], stretches: &[i64; 408], volts: &[i64; 16], j: usize, x: i64) -> i64
+    requires { ⌜ Laid (now board) (now stretches) × Ranged (now board) (now volts) × (j < countOn (now board)) × Within storedLimit x ⌝ }
+    ensures { λ r. ⌜ r ≡ nextOn (now (board .entry)) (now (stretches .entry)) (now (volts .entry)) j x ⌝ }
 {
     let kind = board::kind(board, j);
-    if kind == 2 {
-        return signed::minus(twice(image, board, lines, volts, j), x);
+    if kind == kind::CAPACITOR {
+        return signed::minus(twice(board, stretches, volts, j), x);
     }
-    if kind == 3 {
-        return signed::minus(x, twice(image, board, lines, volts, j));
+    if kind == kind::INDUCTOR {
+        return signed::minus(x, twice(board, stretches, volts, j));
     }
     0
 }
 
 // Whether every new stored current is within its limit.
 fn all_kept(
-    image: &[u8],
-    board: &[u64; 164],
-    lines: &[i64; 136],
+    board: &[u64; 212],
+    stretches: &[i64; 408],
     volts: &[i64; 16],
     stored: &[i64; 32],
 ) -> bool
-    requires { ⌜ Evaluable (now image) (now board) (now lines) (now stored) (now volts) ⌝ }
-    ensures { λ r. ⌜ AllKept (now (image .entry)) (now (board .entry)) (now (volts .entry)) (now (stored .entry)) r ⌝ }
+    requires { ⌜ Evaluable (now board) (now stretches) (now stored) (now volts) ⌝ }
+    ensures { λ r. ⌜ AllKept (now (board .entry)) (now (stretches .entry)) (now (volts .entry)) (now (stored .entry)) r ⌝ }
 {
     let count = board::count(board);
     let mut j: usize = 0;
     while j < count {
-        if !is_kept(next(image, board, lines, volts, j, stored[j])) {
+        if !is_kept(next(board, stretches, volts, j, stored[j])) {
             return false;
         }
         j += 1;
@@ -84,37 +77,30 @@ fn all_kept(
 }
 
 // Stores every new stored current. Each depends on its own old one alone, so that it can take its place.
-fn store_all(
-    image: &[u8],
-    board: &[u64; 164],
-    lines: &[i64; 136],
-    volts: &[i64; 16],
-    stored: &mut [i64; 32],
-)
-    requires { ⌜ Evaluable (now image) (now board) (now lines) (now stored) (now volts) × (length (now stored) ≡ 32) ⌝ }
-    ensures { λ _. ⌜ StoredTo (now (image .entry)) (now (board .entry)) (now (volts .entry)) (now (stored .entry)) (countOn (now (board .entry))) (now (stored .exit)) ⌝ }
+fn store_all(board: &[u64; 212], stretches: &[i64; 408], volts: &[i64; 16], stored: &mut [i64; 32])
+    requires { ⌜ Evaluable (now board) (now stretches) (now stored) (now volts) × (length (now stored) ≡ 32) ⌝ }
+    ensures { λ _. ⌜ StoredTo (now (board .entry)) (now (stretches .entry)) (now (volts .entry)) (now (stored .entry)) (countOn (now (board .entry))) (now (stored .exit)) ⌝ }
 {
     let count = board::count(board);
     let mut j: usize = 0;
     while j < count {
-        stored[j] = next(image, board, lines, volts, j, stored[j]);
+        stored[j] = next(board, stretches, volts, j, stored[j]);
         j += 1;
     }
 }
 
 // All stored currents after a sample with these voltages, if every one is within its limit.
 pub fn advance(
-    image: &[u8],
-    board: &[u64; 164],
-    lines: &[i64; 136],
+    board: &[u64; 212],
+    stretches: &[i64; 408],
     volts: &[i64; 16],
     stored: &mut [i64; 32],
 ) -> Advanced
-    requires { ⌜ Evaluable (now image) (now board) (now lines) (now stored) (now volts) × (length (now stored) ≡ 32) ⌝ }
-    ensures { λ r. ⌜ Advancing (now (image .entry)) (now (board .entry)) (now (volts .entry)) (now (stored .entry)) r (now (stored .exit)) ⌝ }
+    requires { ⌜ Evaluable (now board) (now stretches) (now stored) (now volts) × (length (now stored) ≡ 32) ⌝ }
+    ensures { λ r. ⌜ Advancing (now (board .entry)) (now (stretches .entry)) (now (volts .entry)) (now (stored .entry)) r (now (stored .exit)) ⌝ }
 {
-    if all_kept(image, board, lines, volts, stored) {
-        store_all(image, board, lines, volts, stored);
+    if all_kept(board, stretches, volts, stored) {
+        store_all(board, stretches, volts, stored);
         return Advanced::Stored;
     }
     Advanced::Beyond

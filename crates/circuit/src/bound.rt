@@ -4,7 +4,7 @@ use crate::node;
 use units::signed;
 ghost use mathlib.Core.Path.{_≡_};
 ghost use Prim.Native.Nat.{ℕ, _^_, _≤_, _<_};
-ghost use Rattle.circuit.specs.Board.{Ready};
+ghost use Rattle.circuit.specs.Board.{Laid};
 ghost use Rattle.circuit.specs.Bound.{AtNode, Bounding};
 
 // The least bound, or none where there is no free node or it does not fit.
@@ -28,9 +28,9 @@ fn at_node(steepest: u64, held: u64, e: u64) -> Bound
 }
 
 // The least B that is enough at every free node, for currents that miss zero by at most e.
-pub fn least(image: &[u8], board: &[u64; 164], lines: &[i64; 136], e: u64) -> Bound
-    requires { ⌜ Ready (now image) (now board) (now lines) ⌝ }
-    ensures { λ r. ⌜ Bounding (now (image .entry)) (now (board .entry)) e r ⌝ }
+pub fn least(board: &[u64; 212], stretches: &[i64; 408], e: u64) -> Bound
+    requires { ⌜ Laid (now board) (now stretches) ⌝ }
+    ensures { λ r. ⌜ Bounding (now (board .entry)) (now (stretches .entry)) e r ⌝ }
 {
     let nodes = board::nodes(board);
     let mut i = board::driven(board);
@@ -41,8 +41,8 @@ pub fn least(image: &[u8], board: &[u64; 164], lines: &[i64; 136], e: u64) -> Bo
     while i < nodes {
         i += 1;
         match at_node(
-            node::steepest(image, board, lines, i),
-            node::held(image, board, lines, i),
+            node::steepest(board, stretches, i),
+            node::held(board, stretches, i),
             e,
         ) {
             Bound::Nothing => {

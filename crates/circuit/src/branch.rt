@@ -1,13 +1,14 @@
 // One element as a branch: its current, and what leaves a node by it.
 use crate::board;
 use crate::curve;
+use network::kind;
 use units::signed;
 ghost use mathlib.Core.Path.{_≡_};
 ghost use Prim.Native.Nat.{ℕ, _<_};
 ghost use lib.IntN.{ℤ};
 ghost use Rattle.units.specs.Voltage.{Within};
-ghost use Rattle.network.specs.Network.{current, leaving, conductanceOf, steepestOf, reading, breakpointLimit, storedLimit};
-ghost use Rattle.circuit.specs.Board.{countOn, branchOn, Ready, Evaluable, Ends, acrossOn, flowOn, endAt};
+ghost use Rattle.network.specs.Network.{current, leaving, steepestOf, reading, breakpointLimit, storedLimit};
+ghost use Rattle.circuit.specs.Board.{countOn, plainConductance, branchOn, Laid, Evaluable, Ends, acrossOn, flowOn, endAt};
 
 // Which end of an element a node is.
 pub enum End {
@@ -17,7 +18,7 @@ pub enum End {
 }
 
 // Asked here alone: which elements a node has.
-pub fn end_at(board: &[u64; 164], j: usize, node: usize) -> End
+pub fn end_at(board: &[u64; 212], j: usize, node: usize) -> End
     requires { ⌜ j < 32 ⌝ }
     ensures { λ r. ⌜ r ≡ endAt (now (board .entry)) j node ⌝ }
 {
@@ -31,24 +32,26 @@ pub fn end_at(board: &[u64; 164], j: usize, node: usize) -> End
 }
 
 // What element j carries from p to q at the voltage v between them, its stored current being x.
-fn carried(image: &[u8], board: &[u64; 164], lines: &[i64; 136], j: usize, x: i64, v: i64) -> i64
-    requires { ⌜ Ready (now image) (now board) (now lines) × (j < countOn (now board)) × Within storedLimit x × Within breakpointLimit v ⌝ }
-    ensures { λ r. ⌜ r ≡ current 1 (branchOn (now (image .entry)) (now (board .entry)) j .law) x v ⌝ }
+fn carried(board: &[u64; 212], stretches: &[i64; 408], j: usize, x: i64, v: i64) -> i64
+    requires { ⌜ Laid (now board) (now stretches) × (j < countOn (now board)) × Within storedLimit x × Within breakpointLimit v ⌝ }
+    ensures { λ r. ⌜ r ≡ current 1 (branchOn (now (board .entry)) (now (stretches .entry)) j .law) x v ⌝ }
 {
-    let value = board::value(board, j);
-    if board::kind(board, j) == 4 {
+    if kind::has_curve(board::kind(board, j)) {
         return curve::current(
-            image::curve_at(image, value as usize),
-            lines,
-            board::lines_at(board, j),
+            stretches,
+            board::first(board, j),
+            board::breakpoints(board, j),
             v,
         );
     }
-    signed::minus(signed::times(signed::whole(value), v), x)
+    signed::minus(
+        signed::times(signed::whole(board::conductance(board, j)), v),
+        x,
+    )
 }
 
 // The voltage of element j: that of its end p less that of its end q.
-pub fn across(board: &[u64; 164], volts: &[i64; 16], j: usize) -> i64
+pub fn across(board: &[u64; 212], volts: &[i64; 16], j: usize) -> i64
     requires { ⌜ Ends (now board) (now volts) j ⌝ }
     ensures { λ r. ⌜ r ≡ acrossOn (now (board .entry)) (now (volts .entry)) j ⌝ }
 {
@@ -59,58 +62,59 @@ pub fn across(board: &[u64; 164], volts: &[i64; 16], j: usize) -> i64
 
 // The current of element j, from its end p to its end q, at these voltages.
 pub fn flow(
-    image: &[u8],
-    board: &[u64; 164],
-    lines: &[i64; 136],
+    board: &[u64; 212],
+    stretches: &[i64; 408],
     stored: &[i64; 32],
     volts: &[i64; 16],
     j: usize,
 ) -> i64
-    requires { ⌜ Evaluable (now image) (now board) (now lines) (now stored) (now volts) × (j < countOn (now board)) ⌝ }
-    ensures { λ r. ⌜ r ≡ flowOn (now (image .entry)) (now (board .entry)) (now (stored .entry)) (now (volts .entry)) j ⌝ }
+    requires { ⌜ Evaluable (now board) (now stretches) (now stored) (now volts) × (j < countOn (now board)) ⌝ }
+    ensures { λ r. ⌜ r ≡ flowOn (now (board .entry)) (now (stretches .entry)) (now (stored .entry)) (now (volts .entry)) j ⌝ }
 {
-    carried(image, board, lines, j, stored[j], across(board, volts, j))
+    carried(board, stretches, j, stored[j], across(board, volts, j))
 }
 
 // What leaves the node by element j.
 pub fn leaving(
-    image: &[u8],
-    board: &[u64; 164],
-    lines: &[i64; 136],
+    board: &[u64; 212],
+    stretches: &[i64; 408],
     stored: &[i64; 32],
     volts: &[i64; 16],
     j: usize,
     node: usize,
 ) -> i64
-    requires { ⌜ Evaluable (now image) (now board) (now lines) (now stored) (now volts) × (j < countOn (now board)) ⌝ }
-    ensures { λ r. ⌜ r ≡ leaving 1 (branchOn (now (image .entry)) (now (board .entry)) j) (reading (now (stored .entry)) j) (reading (now (volts .entry))) node ⌝ }
+    requires { ⌜ Evaluable (now board) (now stretches) (now stored) (now volts) × (j < countOn (now board)) ⌝ }
+    ensures { λ r. ⌜ r ≡ leaving 1 (branchOn (now (board .entry)) (now (stretches .entry)) j) (reading (now (stored .entry)) j) (reading (now (volts .entry))) node ⌝ }
 {
     match end_at(board, j, node) {
-        End::P => flow(image, board, lines, stored, volts, j),
-        End::Q => signed::minus(0, flow(image, board, lines, stored, volts, j)),
+        End::P => flow(board, stretches, stored, volts, j),
+        End::Q => signed::minus(0, flow(board, stretches, stored, volts, j)),
         End::Neither => 0,
     }
 }
 
-// The conductance of element j: none for a diode.
-pub fn conductance(image: &[u8], board: &[u64; 164], j: usize) -> u64
+// The conductance of element j: none where it has a curve.
+pub fn conductance(board: &[u64; 212], j: usize) -> u64
     requires { ⌜ j < 32 ⌝ }
-    ensures { λ r. ⌜ r ≡ conductanceOf (branchOn (now (image .entry)) (now (board .entry)) j .law) ⌝ }
+    ensures { λ r. ⌜ r ≡ plainConductance (now (board .entry)) j ⌝ }
 {
-    if board::kind(board, j) == 4 {
+    if kind::has_curve(board::kind(board, j)) {
         return 0;
     }
-    board::value(board, j)
+    board::conductance(board, j)
 }
 
 // The steepest slope of element j.
-pub fn steepest(image: &[u8], board: &[u64; 164], lines: &[i64; 136], j: usize) -> u64
-    requires { ⌜ Ready (now image) (now board) (now lines) × (j < countOn (now board)) ⌝ }
-    ensures { λ r. ⌜ r ≡ steepestOf (branchOn (now (image .entry)) (now (board .entry)) j .law) ⌝ }
+pub fn steepest(board: &[u64; 212], stretches: &[i64; 408], j: usize) -> u64
+    requires { ⌜ Laid (now board) (now stretches) × (j < countOn (now board)) ⌝ }
+    ensures { λ r. ⌜ r ≡ steepestOf (branchOn (now (board .entry)) (now (stretches .entry)) j .law) ⌝ }
 {
-    let value = board::value(board, j);
-    if board::kind(board, j) == 4 {
-        return curve::steepest(image::curve_at(image, value as usize));
+    if kind::has_curve(board::kind(board, j)) {
+        return curve::steepest(
+            stretches,
+            board::first(board, j),
+            board::breakpoints(board, j),
+        );
     }
-    value
+    board::conductance(board, j)
 }

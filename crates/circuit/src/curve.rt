@@ -1,24 +1,21 @@
-// The current of a curve, from its own bytes as they lie in the image and the table of its lines.
+// The current of a curve, from its stretches.
+use crate::stretches;
 use units::signed;
 ghost use mathlib.Core.Path.{_≡_};
-ghost use Prim.Native.Nat.{ℕ, _+_, _*_, _≤_, _<_, max};
-ghost use lib.ListN.{length, getD};
+ghost use Prim.Native.Nat.{ℕ, _+_, _≤_, _<_, max};
 ghost use lib.IntN.{ℤ};
 ghost use Rattle.units.specs.Voltage.{Within};
 ghost use Rattle.network.specs.Network.{greatest, breakpointLimit};
-ghost use Rattle.image.specs.Curve.{curveLength, slopesOf, breakpointsOf};
-ghost use Rattle.circuit.specs.Line.{stretchOf};
-ghost use Rattle.circuit.specs.Board.{CurveReady, curveCurrent};
+ghost use Rattle.circuit.specs.Stretch.{rows, stretchOf, slopesIn, breakpointsIn, curveCurrent, CurveReady};
 
 // The stretch that v lies in.
-pub fn stretch(curve: &[u8], v: i64) -> usize
-    requires { ⌜ length (now curve) ≡ curveLength (getD (now curve) 0 0) ⌝ }
-    ensures { λ r. ⌜ r ≡ stretchOf (breakpointsOf (now (curve .entry))) v ⌝ }
+pub fn stretch(stretches: &[i64; 408], first: usize, m: usize, v: i64) -> usize
+    requires { ⌜ first + m < rows ⌝ }
+    ensures { λ r. ⌜ r ≡ stretchOf (breakpointsIn (now (stretches .entry)) first m) v ⌝ }
 {
-    let m = image::breakpoint_count(curve);
     let mut j: usize = 0;
     while j < m {
-        if signed::less(v, image::breakpoint(curve, j)) {
+        if signed::less(v, stretches::breakpoint(stretches, first + j)) {
             return j;
         }
         j += 1;
@@ -27,14 +24,14 @@ pub fn stretch(curve: &[u8], v: i64) -> usize
 }
 
 // The current of a curve at v: its line's, on the stretch that v lies in.
-pub fn current(curve: &[u8], lines: &[i64; 136], at: usize, v: i64) -> i64
-    requires { ⌜ CurveReady (now curve) (now lines) at × Within breakpointLimit v ⌝ }
-    ensures { λ r. ⌜ r ≡ curveCurrent (now (curve .entry)) v ⌝ }
+pub fn current(stretches: &[i64; 408], first: usize, m: usize, v: i64) -> i64
+    requires { ⌜ CurveReady (now stretches) first m × Within breakpointLimit v ⌝ }
+    ensures { λ r. ⌜ r ≡ curveCurrent (now (stretches .entry)) first m v ⌝ }
 {
-    let j = stretch(curve, v);
+    let row = first + stretch(stretches, first, m, v);
     signed::plus(
-        signed::times(signed::whole(image::slope(curve, j)), v),
-        lines[at + j],
+        signed::times(signed::whole(stretches::slope(stretches, row)), v),
+        stretches::at_zero(stretches, row),
     )
 }
 
@@ -45,15 +42,15 @@ fn larger(a: u64, b: u64) -> u64
 }
 
 // The greatest slope of a curve.
-pub fn steepest(curve: &[u8]) -> u64
-    requires { ⌜ length (now curve) ≡ curveLength (getD (now curve) 0 0) ⌝ }
-    ensures { λ r. ⌜ r ≡ greatest (slopesOf (now (curve .entry))) ⌝ }
+pub fn steepest(stretches: &[i64; 408], first: usize, m: usize) -> u64
+    requires { ⌜ first + m < rows ⌝ }
+    ensures { λ r. ⌜ r ≡ greatest (slopesIn (now (stretches .entry)) first m) ⌝ }
 {
-    let mut i = 1 + image::breakpoint_count(curve);
+    let mut i = 1 + m;
     let mut most: u64 = 0;
     while 0 < i {
         i -= 1;
-        most = larger(image::slope(curve, i), most);
+        most = larger(stretches::slope(stretches, first + i), most);
     }
     most
 }

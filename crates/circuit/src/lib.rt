@@ -1,10 +1,10 @@
-// The code of network's definitions over an accepted image: currents, net current, held conductance,
-// steepest sum, the advance of stored currents, and the least bound B.
+// The code of network's definitions over a board: currents, net current, held conductance, steepest
+// sum, the advance of stored currents, and the least bound B. It reads numbers and no bytes.
 pub mod advance;
 pub mod board;
 pub mod bound;
 pub mod branch;
 pub mod curve;
-pub mod lines;
 pub mod node;
-pub mod opening;
+pub mod places;
+pub mod stretches;

@@ -1,7 +1,7 @@
 -- Text as the programs write it, in ASCII. Assumes nothing.
 use mathlib.Core.Path.{_≡_}
 use mathlib.Core.List.{List, [], _∷_, _++_}
-use Prim.Native.Nat.{ℕ, suc, _+_, _≤_}
+use Prim.Native.Nat.{ℕ, _+_, _≤_}
 use lib.IntN.{ℤ, pos, negsuc, natAbs}
 use lib.ListN.{length, take}
 use Rattle.io.specs.Digits.{digits, Fewest}
@@ -19,6 +19,10 @@ sign (negsuc n) = 45 ∷ []
 
 abbrev pub lineEnd : List ℕ
 lineEnd = 10 ∷ []
+
+-- `refused `, which a refusal's number follows
+abbrev pub refusedWord : List ℕ
+refusedWord = 114 ∷ 101 ∷ 102 ∷ 117 ∷ 115 ∷ 101 ∷ 100 ∷ 32 ∷ []
 
 -- a number as a line
 pub record Line (z : ℤ) (word : List ℕ) : Type 0 where

@@ -2,7 +2,7 @@
 use mathlib.Core.Path.{_≡_, refl, _∙_}
 use mathlib.Core.Bool.{Bool, true, false}
 use mathlib.Core.List.{List}
-use mathlib.Core.Logic.{_⊎_, inl, inr, ⊎-elim}
+use mathlib.Core.Logic.{⊎-elim}
 use Prim.Native.Nat.{ℕ, suc, _+_, _≤_, _<_}
 use native.Mathlib.Omega.{arith}
 use lib.Dec.{eqb}
@@ -13,17 +13,17 @@ use borrow.Author.Tests.{eqb-true, eqb-false}
 use Rattle.units.specs.Voltage.{InRange}
 use Rattle.units.proofs.Integers.{decideN}
 use Rattle.network.specs.Network.{reading}
-use Rattle.circuit.specs.Board.{nodesOn, drivenOn, Ready}
+use Rattle.circuit.specs.Board.{nodesOn, drivenOn, Laid}
 use Rattle.circuit.proofs.BoardLaws.{few-nodes, few-elements, p-node, q-node}
-use Rattle.guess.specs.Proposal.{Fitting, Standing, Proposed}
+use Rattle.guess.specs.Proposal.{InPlaces, Standing, Proposed}
 
--- a store at place i: place j is that one, or it is as it was
-set-law : (l : List ℤ) (i j : ℕ) (v : ℤ) → i < length l → ((j ≡ i) × (reading (set l i v) j ≡ v)) ⊎ ((j ≡ i → ⊥) × (reading (set l i v) j ≡ reading l j))
-set-law l i j v short = go (eqb j i) refl
+-- after a store at place i: what holds of the value, and of the other places, holds of every place j
+after-set : (P : ℤ → Type 0) (l : List ℤ) (i j : ℕ) (v : ℤ) → i < length l → (j ≡ i → P v) → ((j ≡ i → ⊥) → P (reading l j)) → P (reading (set l i v) j)
+after-set P l i j v short here there = go (eqb j i) refl
   where
-    go : (b : Bool) → eqb j i ≡ b → ((j ≡ i) × (reading (set l i v) j ≡ v)) ⊎ ((j ≡ i → ⊥) × (reading (set l i v) j ≡ reading l j))
-    go true e = inl (eqb-true j i e, rw (eqb-true j i e) (getD-set-same l i v (pos 0) short))
-    go false e = inr (eqb-false j i e, getD-set-other l i j v (pos 0) (eqb-false j i e))
+    go : (b : Bool) → eqb j i ≡ b → P (reading (set l i v) j)
+    go true e = let at = eqb-true j i e in rw (at, getD-set-same l i v (pos 0) short) (here at)
+    go false e = let other = eqb-false j i e in rw (getD-set-other l i j v (pos 0) other) (there other)
 
 -- the nodes below i stand in range
 pub record StandingTo (volts : List ℤ) (i : ℕ) : Type 0 where
@@ -47,9 +47,7 @@ pub standing-more : (volts : List ℤ) (i : ℕ) (v : ℤ) → i < 16 → Standi
 standing-more volts i v place h inside =
     record {
       long = length-set volts i v ∙ h .long;
-      ranged = λ j l. ⊎-elim
-          (λ (e : (j ≡ i) × (reading (set volts i v) j ≡ v)). rw (e .1) inside)
-          (λ (e : (j ≡ i → ⊥) × (reading (set volts i v) j ≡ reading volts j)). rw (e .1) (h .ranged j (below i j l (e .0)))) (set-law volts i j v (omega (arith, h .long)));
+      ranged = λ j l. after-set InRange volts i j v (omega (arith, h .long)) (λ e. inside) (λ n. h .ranged j (below i j l n));
     }
 
 pub standing-all : (board : List ℕ) (volts : List ℤ) (i : ℕ) → nodesOn board < i → StandingTo volts i → Standing board volts
@@ -60,9 +58,7 @@ pub standing-set : (board : List ℕ) (volts : List ℤ) (i : ℕ) (v : ℤ) →
 standing-set board volts i v place h inside =
     record {
       long = length-set volts i v ∙ h .long;
-      ranged = λ j l. ⊎-elim
-          (λ (e : (j ≡ i) × (reading (set volts i v) j ≡ v)). rw (e .1) inside)
-          (λ (e : (j ≡ i → ⊥) × (reading (set volts i v) j ≡ reading volts j)). rw (e .1) (h .ranged j l)) (set-law volts i j v (omega (arith, h .long)));
+      ranged = λ j l. after-set InRange volts i j v (omega (arith, h .long)) (λ e. inside) (λ n. h .ranged j l);
     }
 
 module _ (board : List ℕ) (before : List ℤ) where
@@ -75,23 +71,19 @@ module _ (board : List ℕ) (before : List ℤ) where
         let short : i < length after = omega (arith, h .long) in
         record {
           long = length-set after i v ∙ h .long;
-          fixed = λ j l. ⊎-elim
-              (λ (e : (j ≡ i) × (reading (set after i v) j ≡ v)). absurd (omega (arith, e .0)))
-              (λ (e : (j ≡ i → ⊥) × (reading (set after i v) j ≡ reading after j)). e .1 ∙ h .fixed j l) (set-law after i j v short);
-          free = λ j a b. ⊎-elim
-              (λ (e : (j ≡ i) × (reading (set after i v) j ≡ v)). rw (e .1) inside)
-              (λ (e : (j ≡ i → ⊥) × (reading (set after i v) j ≡ reading after j)). rw (e .1) (h .free j a (below i j b (e .0)))) (set-law after i j v short);
+          fixed = λ j l. after-set (λ (z : ℤ). z ≡ reading before j) after i j v short (λ e. absurd (omega (arith, e))) (λ n. h .fixed j l);
+          free = λ j a b. after-set InRange after i j v short (λ e. inside) (λ n. h .free j a (below i j b n));
         }
 
     pub proposed-all : nodesOn board < i → Proposed board before after
     proposed-all past = record { long = h .long; fixed = h .fixed; free = λ j a b. h .free j a (omega arith) }
 
-pub fitting : (image board : List ℕ) (lines : List ℤ) → Ready image board lines → Fitting board
-fitting image board lines ready =
+pub in-places : (board : List ℕ) (stretches : List ℤ) → Laid board stretches → InPlaces board
+in-places board stretches laid =
     record {
-      few-nodes = few-nodes image board lines ready;
-      few-driven = ready .limits .wired .driven-there;
-      few-elements = few-elements image board lines ready;
-      p-there = p-node image board lines ready;
-      q-there = q-node image board lines ready;
+      few-nodes = few-nodes board stretches laid;
+      few-driven = laid .limits .wired .driven-there;
+      few-elements = few-elements board stretches laid;
+      p-there = p-node board stretches laid;
+      q-there = q-node board stretches laid;
     }

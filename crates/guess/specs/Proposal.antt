@@ -8,8 +8,8 @@ use Rattle.units.specs.Voltage.{InRange}
 use Rattle.network.specs.Network.{reading}
 use Rattle.circuit.specs.Board.{nodesOn, drivenOn, countOn, pOn, qOn, Ready, Kept, Ranged}
 
--- every place that is read or written by a node or an element of the board is there
-pub record Fitting (board : List ℕ) : Type 0 where
+-- every place that a node or an element of the board asks for is there
+pub record InPlaces (board : List ℕ) : Type 0 where
   pub few-nodes : nodesOn board ≤ 15
   pub few-driven : drivenOn board ≤ nodesOn board
   pub few-elements : countOn board ≤ 32
@@ -28,6 +28,6 @@ pub record Proposed (board : List ℕ) (before after : List ℤ) : Type 0 where
   pub free : (j : ℕ) → drivenOn board < j → j ≤ nodesOn board → InRange (reading after j)
 
 -- what the guess is given: a board that is ready, and stored currents within their limit
-pub record Given (image board : List ℕ) (lines stored : List ℤ) : Type 0 where
-  pub ready : Ready image board lines
+pub record Guessable (board : List ℕ) (stretches stored : List ℤ) : Type 0 where
+  pub ready : Ready board stretches
   pub kept : Kept board stored

@@ -10,7 +10,7 @@ use units::voltage::Nearest;
 use units::voltage::Voltage;
 ghost use Prim.Native.Nat.{_≤_, _<_};
 ghost use Rattle.circuit.specs.Board.{nodesOn, drivenOn, Evaluable};
-ghost use Rattle.guess.specs.Proposal.{Fitting, Standing, Proposed};
+ghost use Rattle.guess.specs.Proposal.{Standing, Proposed};
 
 // How a guess ended. The first two carry the largest net current that remains at a free node.
 pub enum Ending {
@@ -20,7 +20,7 @@ pub enum Ending {
 }
 
 // What came of a round: by how much a voltage changed at most, or that one is none.
-pub enum Round {
+pub enum Change {
     Moved(f64),
     Lost,
 }
@@ -30,7 +30,7 @@ fn larger(a: f64, b: f64) -> f64 {
 }
 
 // The voltages as f64.
-fn floats(board: &[u64; 164], volts: &[i64; 16]) -> [f64; 16]
+fn floats(board: &[u64; 212], volts: &[i64; 16]) -> [f64; 16]
     requires { ⌜ nodesOn (now board) ≤ 15 ⌝ }
 {
     let nodes = board::nodes(board);
@@ -48,7 +48,7 @@ fn floats(board: &[u64; 164], volts: &[i64; 16]) -> [f64; 16]
 
 // The free nodes and what was solved for, rounded: in x, and in `volts` as whole microvolts. The change
 // is taken before the old value is overwritten.
-fn step(board: &[u64; 164], more: [f64; 16], x: &mut [f64; 16], volts: &mut [i64; 16]) -> Round
+fn shift(board: &[u64; 212], more: [f64; 16], x: &mut [f64; 16], volts: &mut [i64; 16]) -> Change
     requires { ⌜ (nodesOn (now board) ≤ 15) × (drivenOn (now board) ≤ nodesOn (now board)) × Standing (now board) (now volts) ⌝ }
     ensures { λ r. ⌜ Standing (now (board .entry)) (now (volts .exit)) ⌝ }
 {
@@ -66,15 +66,15 @@ fn step(board: &[u64; 164], more: [f64; 16], x: &mut [f64; 16], volts: &mut [i64
                 i += 1;
             }
             Nearest::Nothing => {
-                return Round::Lost;
+                return Change::Lost;
             }
         }
     }
-    Round::Moved(most)
+    Change::Moved(most)
 }
 
 // The largest of the free nodes' net currents.
-fn largest(board: &[u64; 164], nets: [f64; 16]) -> f64
+fn largest(board: &[u64; 212], nets: [f64; 16]) -> f64
     requires { ⌜ (nodesOn (now board) ≤ 15) × (drivenOn (now board) ≤ nodesOn (now board)) ⌝ }
 {
     let nodes = board::nodes(board);
@@ -90,7 +90,7 @@ fn largest(board: &[u64; 164], nets: [f64; 16]) -> f64
 // What is left over is solved for once more, and the free nodes are brought to the whole microvolts that
 // the ties find best.
 fn cut(
-    board: &[u64; 164],
+    board: &[u64; 212],
     m: &[[f64; 15]; 15],
     nets: [f64; 16],
     spent: bool,
@@ -101,9 +101,9 @@ fn cut(
     ensures { λ r. ⌜ Standing (now (board .entry)) (now (volts .exit)) ⌝ }
 {
     let whole = ties::cut(m, &nets, board::driven(board), board::nodes(board));
-    match step(board, whole, x, volts) {
-        Round::Lost => Ending::Broken,
-        Round::Moved(_) => {
+    match shift(board, whole, x, volts) {
+        Change::Lost => Ending::Broken,
+        Change::Moved(_) => {
             let left = largest(board, nets);
             if spent {
                 return Ending::Spent(left);
@@ -113,23 +113,22 @@ fn cut(
     }
 }
 
-// Rounds until no diode is on another line than the one that was solved with, which makes the solution
+// Rounds until no curve is on another line than the one that was solved with, which makes the solution
 // exact, or no voltage changed, or there were enough of them.
 fn search(
-    image: &[u8],
-    board: &[u64; 164],
-    lines: &[i64; 136],
+    board: &[u64; 212],
+    stretches: &[i64; 408],
     stored: &[i64; 32],
     volts: &mut [i64; 16],
 ) -> Ending
-    requires { ⌜ Evaluable (now image) (now board) (now lines) (now stored) (now volts) × Fitting (now board) × Standing (now board) (now volts) ⌝ }
+    requires { ⌜ Evaluable (now board) (now stretches) (now stored) (now volts) × Standing (now board) (now volts) ⌝ }
     ensures { λ r. ⌜ Standing (now (board .entry)) (now (volts .exit)) ⌝ }
 {
     let driven = board::driven(board);
     let nodes = board::nodes(board);
     let mut x = floats(board, volts);
     let mut m = straight::leaks(board);
-    let mut tangents = straight::taken(image, board, lines, stored, volts, &mut m);
+    let mut tangents = straight::taken(board, stretches, stored, volts, &mut m);
     let mut changed = true;
     let mut difference: f64 = 1.0;
     let mut rounds: u64 = 0;
@@ -139,15 +138,15 @@ fn search(
             return Ending::Broken;
         }
         let more = solution.x;
-        match step(board, more, &mut x, volts) {
-            Round::Lost => {
+        match shift(board, more, &mut x, volts) {
+            Change::Lost => {
                 return Ending::Broken;
             }
-            Round::Moved(d) => {
+            Change::Moved(d) => {
                 difference = d;
             }
         }
-        let r = straight::retaken(image, board, lines, stored, volts, tangents, &mut m);
+        let r = straight::retaken(board, stretches, volts, tangents, &mut m);
         tangents = r.tangents;
         changed = r.changed;
         rounds += 1;
@@ -158,28 +157,27 @@ fn search(
 
 // Rounded proposals for the free nodes in `guess`; those of `volts` if the search broke.
 pub fn newton(
-    image: &[u8],
-    board: &[u64; 164],
-    lines: &[i64; 136],
+    board: &[u64; 212],
+    stretches: &[i64; 408],
     stored: &[i64; 32],
     volts: &[i64; 16],
     guess: &mut [i64; 16],
 ) -> Ending
-    requires { ⌜ Evaluable (now image) (now board) (now lines) (now stored) (now volts) ⌝ }
+    requires { ⌜ Evaluable (now board) (now stretches) (now stored) (now volts) ⌝ }
     ensures { λ r. ⌜ Proposed (now (board .entry)) (now (guess .entry)) (now (guess .exit)) ⌝ }
 {
-    let mut at = places::copied(volts);
-    match search(image, board, lines, stored, &mut at) {
+    let mut at = circuit::places::copied(volts);
+    match search(board, stretches, stored, &mut at) {
         Ending::Settled(left) => {
-            places::put(board, &at, guess);
+            places::place_free(board, &at, guess);
             Ending::Settled(left)
         }
         Ending::Spent(left) => {
-            places::put(board, &at, guess);
+            places::place_free(board, &at, guess);
             Ending::Spent(left)
         }
         Ending::Broken => {
-            places::put(board, volts, guess);
+            places::place_free(board, volts, guess);
             Ending::Broken
         }
     }

@@ -1,32 +1,16 @@
 // Arrays of microvolts with a place for each node, ground's first.
 use circuit::board;
 use units::voltage::Voltage;
-ghost use mathlib.Core.Path.{_≡_};
-ghost use Prim.Native.Nat.{_≤_, _<_};
-ghost use lib.ListN.{length};
+ghost use Prim.Native.Nat.{_≤_};
 ghost use Rattle.circuit.specs.Board.{nodesOn, drivenOn, Ranged};
 ghost use Rattle.guess.specs.Proposal.{Standing, Proposed};
 
-// An array is as long as it says.
-fn known(volts: [i64; 16]) -> [i64; 16]
-    ensures { λ r. ⌜ (r ≡ volts) × (length volts ≡ 16) ⌝ }
-{
-    volts
-}
-
-// The places once more. That there are 16 of them is known of an array, and not of a reference.
-pub fn copied(volts: &[i64; 16]) -> [i64; 16]
-    ensures { λ r. ⌜ (r ≡ now (volts .entry)) × (length (now (volts .entry)) ≡ 16) ⌝ }
-{
-    known(*volts)
-}
-
 // Ground at zero and every node brought into range, so that currents can be asked for.
-pub fn seated(board: &[u64; 164], volts: &[i64; 16]) -> [i64; 16]
+pub fn seated(board: &[u64; 212], volts: &[i64; 16]) -> [i64; 16]
     requires { ⌜ nodesOn (now board) ≤ 15 ⌝ }
     ensures { λ r. ⌜ Standing (now (board .entry)) r ⌝ }
 {
-    let mut at = copied(volts);
+    let mut at = circuit::places::copied(volts);
     let nodes = board::nodes(board);
     let mut i: usize = 1;
     at[0] = 0;
@@ -38,11 +22,11 @@ pub fn seated(board: &[u64; 164], volts: &[i64; 16]) -> [i64; 16]
 }
 
 // The free nodes of `to` placed as in `from`.
-pub fn put(board: &[u64; 164], from: &[i64; 16], to: &mut [i64; 16])
+pub fn place_free(board: &[u64; 212], from: &[i64; 16], to: &mut [i64; 16])
     requires { ⌜ (nodesOn (now board) ≤ 15) × (drivenOn (now board) ≤ nodesOn (now board)) × Ranged (now board) (now from) ⌝ }
     ensures { λ _. ⌜ Proposed (now (board .entry)) (now (to .entry)) (now (to .exit)) ⌝ }
 {
-    let mut after = copied(to);
+    let mut after = circuit::places::copied(to);
     let nodes = board::nodes(board);
     let mut i = board::driven(board) + 1;
     while i <= nodes {

@@ -8,8 +8,7 @@ use circuit::branch;
 use linear::whole;
 use units::voltage::Nearest;
 use units::voltage::Voltage;
-ghost use mathlib.Core.Path.{_≡_};
-ghost use Prim.Native.Nat.{ℕ, _≤_, _<_};
+ghost use Prim.Native.Nat.{_≤_, _<_};
 ghost use Rattle.circuit.specs.Board.{countOn, Evaluable};
 ghost use Rattle.guess.specs.Proposal.{Standing};
 
@@ -24,19 +23,18 @@ fn float_at(volts: &[i64; 16], i: usize) -> f64
 
 // What leaves the node by element j, as a line over the node's own voltage.
 fn leaving(
-    image: &[u8],
-    board: &[u64; 164],
-    lines: &[i64; 136],
+    board: &[u64; 212],
+    stretches: &[i64; 408],
     stored: &[i64; 32],
     volts: &[i64; 16],
     j: usize,
     node: usize,
 ) -> Tangent
-    requires { ⌜ Evaluable (now image) (now board) (now lines) (now stored) (now volts) × (j < countOn (now board)) ⌝ }
+    requires { ⌜ Evaluable (now board) (now stretches) (now stored) (now volts) × (j < countOn (now board)) ⌝ }
 {
     match branch::end_at(board, j, node) {
         branch::End::P => {
-            let t = tangent::of_element(image, board, lines, stored, volts, j);
+            let t = tangent::of_element(board, stretches, stored, volts, j);
             let other = float_at(volts, board::end_q(board, j));
             Tangent {
                 slope: t.slope,
@@ -44,7 +42,7 @@ fn leaving(
             }
         }
         branch::End::Q => {
-            let t = tangent::of_element(image, board, lines, stored, volts, j);
+            let t = tangent::of_element(board, stretches, stored, volts, j);
             let other = float_at(volts, board::end_p(board, j));
             Tangent {
                 slope: t.slope,
@@ -60,21 +58,20 @@ fn leaving(
 
 // The line of the node's net current where it stands.
 fn line(
-    image: &[u8],
-    board: &[u64; 164],
-    lines: &[i64; 136],
+    board: &[u64; 212],
+    stretches: &[i64; 408],
     stored: &[i64; 32],
     volts: &[i64; 16],
     node: usize,
 ) -> Tangent
-    requires { ⌜ Evaluable (now image) (now board) (now lines) (now stored) (now volts) ⌝ }
+    requires { ⌜ Evaluable (now board) (now stretches) (now stored) (now volts) ⌝ }
 {
     let count = board::count(board);
     let mut slope = std::num::nearest_u64_to_f64(board::leak(board));
     let mut at_zero: f64 = 0.0;
     let mut j: usize = 0;
     while j < count {
-        let t = leaving(image, board, lines, stored, volts, j, node);
+        let t = leaving(board, stretches, stored, volts, j, node);
         slope = slope + t.slope;
         at_zero = at_zero + t.at_zero;
         j += 1;
@@ -93,7 +90,7 @@ fn left(t: Tangent, v: f64) -> f64 {
 }
 
 // The node put at the voltage that x is. False if it is none.
-fn put(board: &[u64; 164], x: f64, node: usize, volts: &mut [i64; 16]) -> bool
+fn place_node(board: &[u64; 212], x: f64, node: usize, volts: &mut [i64; 16]) -> bool
     requires { ⌜ Standing (now board) (now volts) × (node ≤ 15) ⌝ }
     ensures { λ r. ⌜ Standing (now (board .entry)) (now (volts .exit)) ⌝ }
 {
@@ -109,26 +106,25 @@ fn put(board: &[u64; 164], x: f64, node: usize, volts: &mut [i64; 16]) -> bool
 
 // The node moved until its line stays the same, or often enough.
 pub fn slide(
-    image: &[u8],
-    board: &[u64; 164],
-    lines: &[i64; 136],
+    board: &[u64; 212],
+    stretches: &[i64; 408],
     stored: &[i64; 32],
     node: usize,
     volts: &mut [i64; 16],
 ) -> Ending
-    requires { ⌜ Evaluable (now image) (now board) (now lines) (now stored) (now volts) × Standing (now board) (now volts) × (node ≤ 15) ⌝ }
+    requires { ⌜ Evaluable (now board) (now stretches) (now stored) (now volts) × Standing (now board) (now volts) × (node ≤ 15) ⌝ }
     ensures { λ r. ⌜ Standing (now (board .entry)) (now (volts .exit)) ⌝ }
 {
-    let mut t = line(image, board, lines, stored, volts, node);
+    let mut t = line(board, stretches, stored, volts, node);
     let mut x: f64 = 0.0;
     let mut changed = true;
     let mut rounds: u64 = 0;
     while changed && rounds < 12 {
         x = crossing(t);
-        if !put(board, x, node, volts) {
+        if !place_node(board, x, node, volts) {
             return Ending::Broken;
         }
-        let next = line(image, board, lines, stored, volts, node);
+        let next = line(board, stretches, stored, volts, node);
         changed = (next.slope != t.slope) | (next.at_zero != t.at_zero);
         t = next;
         rounds += 1;

@@ -4,18 +4,19 @@ use crate::tangent;
 use crate::tangent::Tangent;
 use circuit::board;
 use linear::matrix;
+use network::kind;
 ghost use Prim.Native.Nat.{_≤_, _<_};
-ghost use Rattle.circuit.specs.Board.{nodesOn, Evaluable};
-ghost use Rattle.guess.specs.Proposal.{Fitting};
+ghost use Rattle.circuit.specs.Board.{nodesOn, Laid, Ranged, Evaluable};
+ghost use Rattle.guess.specs.Proposal.{InPlaces};
 
-// The tangents once more, and whether some diode is on another line than before.
+// The tangents once more, and whether some curve is on another line than before.
 pub struct Renewed {
     pub tangents: [Tangent; 32],
     pub changed: bool,
 }
 
 // The matrix of the leaks alone.
-pub fn leaks(board: &[u64; 164]) -> [[f64; 15]; 15]
+pub fn leaks(board: &[u64; 212]) -> [[f64; 15]; 15]
     requires { ⌜ nodesOn (now board) ≤ 15 ⌝ }
 {
     let leak = std::num::nearest_u64_to_f64(board::leak(board));
@@ -31,14 +32,13 @@ pub fn leaks(board: &[u64; 164]) -> [[f64; 15]; 15]
 
 // The tangents at these voltages, their slopes added to the matrix.
 pub fn taken(
-    image: &[u8],
-    board: &[u64; 164],
-    lines: &[i64; 136],
+    board: &[u64; 212],
+    stretches: &[i64; 408],
     stored: &[i64; 32],
     volts: &[i64; 16],
     m: &mut [[f64; 15]; 15],
 ) -> [Tangent; 32]
-    requires { ⌜ Evaluable (now image) (now board) (now lines) (now stored) (now volts) × Fitting (now board) ⌝ }
+    requires { ⌜ Evaluable (now board) (now stretches) (now stored) (now volts) ⌝ }
 {
     let mut tangents = [Tangent {
         slope: 0.0,
@@ -47,7 +47,7 @@ pub fn taken(
     let count = board::count(board);
     let mut j: usize = 0;
     while j < count {
-        let t = tangent::of_element(image, board, lines, stored, volts, j);
+        let t = tangent::of_element(board, stretches, stored, volts, j);
         matrix::join(m, board::end_p(board, j), board::end_q(board, j), t.slope);
         tangents[j] = t;
         j += 1;
@@ -55,26 +55,24 @@ pub fn taken(
     tangents
 }
 
-// The diodes' tangents at new voltages. The matrix is whole, so that only the change of a slope is
+// The curves' tangents at new voltages. The matrix is whole, so that only the change of a slope is
 // added to it: slopes are whole numbers that an f64 has room for, and nothing is rounded.
 pub fn retaken(
-    image: &[u8],
-    board: &[u64; 164],
-    lines: &[i64; 136],
-    stored: &[i64; 32],
+    board: &[u64; 212],
+    stretches: &[i64; 408],
     volts: &[i64; 16],
     tangents: [Tangent; 32],
     m: &mut [[f64; 15]; 15],
 ) -> Renewed
-    requires { ⌜ Evaluable (now image) (now board) (now lines) (now stored) (now volts) × Fitting (now board) ⌝ }
+    requires { ⌜ Laid (now board) (now stretches) × Ranged (now board) (now volts) ⌝ }
 {
     let mut next = tangents;
     let mut changed = false;
     let count = board::count(board);
     let mut j: usize = 0;
     while j < count {
-        if board::kind(board, j) == 4 {
-            let t = tangent::of_diode(image, board, lines, stored, volts, j);
+        if kind::has_curve(board::kind(board, j)) {
+            let t = tangent::of_curve(board, stretches, volts, j);
             let old = next[j];
             if t.slope != old.slope || t.at_zero != old.at_zero {
                 changed = true;
@@ -96,7 +94,7 @@ pub fn retaken(
 }
 
 // What enters each node by its leak.
-fn leaking(board: &[u64; 164], x: &[f64; 16]) -> [f64; 16]
+fn leaking(board: &[u64; 212], x: &[f64; 16]) -> [f64; 16]
     requires { ⌜ nodesOn (now board) ≤ 15 ⌝ }
 {
     let leak = std::num::nearest_u64_to_f64(board::leak(board));
@@ -111,8 +109,8 @@ fn leaking(board: &[u64; 164], x: &[f64; 16]) -> [f64; 16]
 }
 
 // What enters each node, by the tangents: its net current the other way round.
-pub fn entering(board: &[u64; 164], tangents: [Tangent; 32], x: &[f64; 16]) -> [f64; 16]
-    requires { ⌜ Fitting (now board) ⌝ }
+pub fn entering(board: &[u64; 212], tangents: [Tangent; 32], x: &[f64; 16]) -> [f64; 16]
+    requires { ⌜ InPlaces (now board) ⌝ }
 {
     let mut nets = leaking(board, x);
     let count = board::count(board);

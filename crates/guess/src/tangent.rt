@@ -1,12 +1,16 @@
-// The tangent of an element: the straight line that its current follows near a voltage. A diode's is
+// The tangent of an element: the straight line that its current follows near a voltage. A curve's is
 // the line of the stretch that the voltage lies in; any other element is a line already.
 use circuit::board;
 use circuit::branch;
 use circuit::curve;
+use circuit::stretches;
+use network::kind;
 ghost use mathlib.Core.Path.{_≡_};
-ghost use Prim.Native.Nat.{_<_};
-ghost use Rattle.circuit.specs.Board.{countOn, kindOn, CurveReady, Evaluable};
-ghost use Rattle.image.specs.Circuit.{diodeKind};
+ghost use mathlib.Core.Bool.{true};
+ghost use Prim.Native.Nat.{_+_, _<_};
+ghost use Rattle.network.specs.Kind.{hasCurve};
+ghost use Rattle.circuit.specs.Stretch.{rows};
+ghost use Rattle.circuit.specs.Board.{countOn, kindOn, Laid, Ranged, Evaluable};
 
 // The current at the voltage v is slope × v + at_zero.
 pub struct Tangent {
@@ -14,52 +18,44 @@ pub struct Tangent {
     pub at_zero: f64,
 }
 
-// That of a curve at v.
-fn on_curve(curve: &[u8], lines: &[i64; 136], at: usize, v: i64) -> Tangent
-    requires { ⌜ CurveReady (now curve) (now lines) at ⌝ }
+// That of a curve of m breakpoints at v, its stretches from row `first` on.
+fn on_curve(stretches: &[i64; 408], first: usize, m: usize, v: i64) -> Tangent
+    requires { ⌜ first + m < rows ⌝ }
 {
-    let j = curve::stretch(curve, v);
+    let row = first + curve::stretch(stretches, first, m, v);
     Tangent {
-        slope: std::num::nearest_u64_to_f64(image::slope(curve, j)),
-        at_zero: std::num::nearest_i64_to_f64(lines[at + j]),
+        slope: std::num::nearest_u64_to_f64(stretches::slope(stretches, row)),
+        at_zero: std::num::nearest_i64_to_f64(stretches::at_zero(stretches, row)),
     }
 }
 
-// That of element j, a diode, at the voltage across it.
-pub fn of_diode(
-    image: &[u8],
-    board: &[u64; 164],
-    lines: &[i64; 136],
-    stored: &[i64; 32],
-    volts: &[i64; 16],
-    j: usize,
-) -> Tangent
-    requires { ⌜ Evaluable (now image) (now board) (now lines) (now stored) (now volts) × (j < countOn (now board)) × (kindOn (now board) j ≡ diodeKind) ⌝ }
+// That of element j, which has a curve, at the voltage across it.
+pub fn of_curve(board: &[u64; 212], stretches: &[i64; 408], volts: &[i64; 16], j: usize) -> Tangent
+    requires { ⌜ Laid (now board) (now stretches) × Ranged (now board) (now volts) × (j < countOn (now board)) × (hasCurve (kindOn (now board) j) ≡ true) ⌝ }
 {
     on_curve(
-        image::curve_at(image, board::value(board, j) as usize),
-        lines,
-        board::lines_at(board, j),
+        stretches,
+        board::first(board, j),
+        board::breakpoints(board, j),
         branch::across(board, volts, j),
     )
 }
 
 // That of element j, whatever it is.
 pub fn of_element(
-    image: &[u8],
-    board: &[u64; 164],
-    lines: &[i64; 136],
+    board: &[u64; 212],
+    stretches: &[i64; 408],
     stored: &[i64; 32],
     volts: &[i64; 16],
     j: usize,
 ) -> Tangent
-    requires { ⌜ Evaluable (now image) (now board) (now lines) (now stored) (now volts) × (j < countOn (now board)) ⌝ }
+    requires { ⌜ Evaluable (now board) (now stretches) (now stored) (now volts) × (j < countOn (now board)) ⌝ }
 {
-    if board::kind(board, j) == 4 {
-        return of_diode(image, board, lines, stored, volts, j);
+    if kind::has_curve(board::kind(board, j)) {
+        return of_curve(board, stretches, volts, j);
     }
     Tangent {
-        slope: std::num::nearest_u64_to_f64(board::value(board, j)),
+        slope: std::num::nearest_u64_to_f64(board::conductance(board, j)),
         at_zero: -std::num::nearest_i64_to_f64(stored[j]),
     }
 }

@@ -1,56 +1,62 @@
--- The images of document 01's proved cases are accepted, and mean the networks of network's table of cases. Assumes nothing.
+-- The images of document 01's proved cases are opened, and mean the networks of network's table of cases. Assumes nothing.
 use mathlib.Core.Path.{_≡_, refl, fun-ext}
+use mathlib.Core.Bool.{true}
 use mathlib.Core.List.{List}
 use Prim.Native.Nat.{ℕ, zero, suc}
+use native.Mathlib.Omega.{arith}
+use borrow.Author.Tests.{le-ltb}
 use Rattle.units.specs.Bytes.{littleEndian}
+use Rattle.units.specs.Table.{tabulate, padded, every}
+use Rattle.image.specs.Parts.{elementOf, curveOf, slopesOf, breakpointsOf, headerFits, curveSizesFit, curveFits, curvesFit, elementFits, elementsFit}
+use Rattle.image.specs.Conductance.{conductanceBy, conductancesFit}
+use Rattle.image.specs.Setting.{plain}
+use Rattle.image.specs.Curve.{curveIn, startFrom}
+use Rattle.image.specs.Format.{trailerAt, headerAt, elementAt, partsOf, trailerFits, sizesFit, curveBytesFit, opened, openingOf}
+use Rattle.image.specs.Meaning.{branchAt, networkAt}
 use Rattle.network.specs.Cases as cases
-use Rattle.image.specs.Tests.{every}
-use Rattle.image.specs.Curve.{tabulate, slopesOf, breakpointsOf}
-use Rattle.image.specs.Conductance.{conductanceBy}
-use Rattle.image.specs.Format.{accepted, trailerAt, elementAt, startFrom, trailerFits, splits, sizesFit, curveFits, curvesFit, elementFits, elementsFit, conductancesFit, partsOf, readingOf}
-use Rattle.image.specs.Meaning.{branchIn, networkOf}
 use Rattle.image.specs.Examples.{example, lowPass, clipper, lone}
 
--- an image is accepted, and its parts mean a circuit of the table
+-- an image is opened, its conductances are in their limits, and it means a circuit of the table
 pub record Means (image : List ℕ) (c : cases.Circuit) : Type 0 where
-  pub reading : readingOf image ≡ accepted (partsOf image)
-  pub network : networkOf (partsOf image) ≡ cases.networkOf c
+  pub opening : openingOf image ≡ opened (partsOf image)
+  pub conductances : conductancesFit (partsOf image) plain ≡ true
+  pub network : networkAt (partsOf image) plain ≡ cases.networkOf c
 
-example-branches : (j : ℕ) → networkOf (partsOf example) .branch j ≡ cases.networkOf cases.divider .branch j
-unfolding littleEndian tabulate slopesOf breakpointsOf conductanceBy trailerAt elementAt startFrom partsOf branchIn networkOf example
+example-branches : (j : ℕ) → networkAt (partsOf example) plain .branch j ≡ cases.networkOf cases.divider .branch j
+unfolding littleEndian tabulate padded conductanceBy headerAt elementAt startFrom curveIn partsOf elementOf curveOf slopesOf breakpointsOf branchAt example
 example-branches zero = refl
 example-branches (suc zero) = refl
-example-branches (suc (suc j)) = refl
+example-branches (suc (suc j)) = rw (le-ltb (suc (suc j)) 2 (omega arith))
 
 pub example-means : Means example cases.divider
-unfolding littleEndian every tabulate conductanceBy trailerAt elementAt startFrom trailerFits splits sizesFit curveFits curvesFit elementFits elementsFit conductancesFit partsOf readingOf networkOf example
-example-means = record { reading = refl; network = rw (fun-ext example-branches) }
+unfolding littleEndian every tabulate padded conductanceBy conductancesFit trailerAt headerAt elementAt startFrom curveIn partsOf elementOf curveOf headerFits trailerFits curveSizesFit sizesFit curveFits curvesFit curveBytesFit elementFits elementsFit openingOf example
+example-means = record { opening = refl; conductances = refl; network = rw (fun-ext example-branches) }
 
-low-pass-branches : (j : ℕ) → networkOf (partsOf lowPass) .branch j ≡ cases.networkOf cases.lowPass .branch j
-unfolding littleEndian tabulate slopesOf breakpointsOf conductanceBy trailerAt elementAt startFrom partsOf branchIn networkOf lowPass
+low-pass-branches : (j : ℕ) → networkAt (partsOf lowPass) plain .branch j ≡ cases.networkOf cases.lowPass .branch j
+unfolding littleEndian tabulate padded conductanceBy headerAt elementAt startFrom curveIn partsOf elementOf curveOf slopesOf breakpointsOf branchAt lowPass
 low-pass-branches zero = refl
 low-pass-branches (suc zero) = refl
-low-pass-branches (suc (suc j)) = refl
+low-pass-branches (suc (suc j)) = rw (le-ltb (suc (suc j)) 2 (omega arith))
 
 pub low-pass-means : Means lowPass cases.lowPass
-unfolding littleEndian every tabulate conductanceBy trailerAt elementAt startFrom trailerFits splits sizesFit curveFits curvesFit elementFits elementsFit conductancesFit partsOf readingOf networkOf lowPass
-low-pass-means = record { reading = refl; network = rw (fun-ext low-pass-branches) }
+unfolding littleEndian every tabulate padded conductanceBy conductancesFit trailerAt headerAt elementAt startFrom curveIn partsOf elementOf curveOf headerFits trailerFits curveSizesFit sizesFit curveFits curvesFit curveBytesFit elementFits elementsFit openingOf lowPass
+low-pass-means = record { opening = refl; conductances = refl; network = rw (fun-ext low-pass-branches) }
 
-clipper-branches : (j : ℕ) → networkOf (partsOf clipper) .branch j ≡ cases.networkOf cases.clipper .branch j
-unfolding littleEndian tabulate slopesOf breakpointsOf conductanceBy trailerAt elementAt startFrom partsOf branchIn networkOf clipper
+clipper-branches : (j : ℕ) → networkAt (partsOf clipper) plain .branch j ≡ cases.networkOf cases.clipper .branch j
+unfolding littleEndian tabulate padded conductanceBy headerAt elementAt startFrom curveIn partsOf elementOf curveOf slopesOf breakpointsOf branchAt clipper
 clipper-branches zero = refl
 clipper-branches (suc zero) = refl
-clipper-branches (suc (suc j)) = refl
+clipper-branches (suc (suc j)) = rw (le-ltb (suc (suc j)) 2 (omega arith))
 
 pub clipper-means : Means clipper cases.clipper
-unfolding littleEndian every tabulate conductanceBy trailerAt elementAt startFrom trailerFits splits sizesFit curveFits curvesFit elementFits elementsFit conductancesFit partsOf readingOf networkOf clipper
-clipper-means = record { reading = refl; network = rw (fun-ext clipper-branches) }
+unfolding littleEndian every tabulate padded conductanceBy conductancesFit trailerAt headerAt elementAt startFrom curveIn partsOf elementOf curveOf headerFits trailerFits curveSizesFit sizesFit curveFits curvesFit curveBytesFit elementFits elementsFit openingOf clipper
+clipper-means = record { opening = refl; conductances = refl; network = rw (fun-ext clipper-branches) }
 
-lone-branches : (j : ℕ) → networkOf (partsOf lone) .branch j ≡ cases.networkOf cases.lone .branch j
-unfolding littleEndian tabulate slopesOf breakpointsOf conductanceBy trailerAt elementAt startFrom partsOf branchIn networkOf lone
+lone-branches : (j : ℕ) → networkAt (partsOf lone) plain .branch j ≡ cases.networkOf cases.lone .branch j
+unfolding littleEndian tabulate padded conductanceBy headerAt elementAt startFrom curveIn partsOf elementOf curveOf slopesOf breakpointsOf branchAt lone
 lone-branches zero = refl
-lone-branches (suc j) = refl
+lone-branches (suc j) = rw (le-ltb (suc j) 1 (omega arith))
 
 pub lone-means : Means lone cases.lone
-unfolding littleEndian every tabulate conductanceBy trailerAt elementAt startFrom trailerFits splits sizesFit curveFits curvesFit elementFits elementsFit conductancesFit partsOf readingOf networkOf lone
-lone-means = record { reading = refl; network = rw (fun-ext lone-branches) }
+unfolding littleEndian every tabulate padded conductanceBy conductancesFit trailerAt headerAt elementAt startFrom curveIn partsOf elementOf curveOf headerFits trailerFits curveSizesFit sizesFit curveFits curvesFit curveBytesFit elementFits elementsFit openingOf lone
+lone-means = record { opening = refl; conductances = refl; network = rw (fun-ext lone-branches) }

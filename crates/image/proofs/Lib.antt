@@ -1,8 +1,7 @@
-pub mod Accepted
 pub mod Curves
-pub mod Every
 pub mod Examples
+pub mod Opening
+pub mod Places
 pub mod Promise
-pub mod Reading
-pub mod Rules
-pub mod Tables
+pub mod Says
+pub mod Sound

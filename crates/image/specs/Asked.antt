@@ -1,13 +1,13 @@
 -- What the reader's functions ask of one another; no outcome rests on it. Assumes nothing.
 use mathlib.Core.Path.{_≡_}
 use mathlib.Core.List.{List}
-use Prim.Native.Nat.{ℕ, _+_, _*_, _^_, _≤_, _<_}
+use Prim.Native.Nat.{ℕ, _+_, _*_, _≤_, _<_}
 use lib.ListN.{length}
 use Rattle.network.specs.Network.{branchLimit, breakpointCountLimit}
+use Rattle.image.specs.Parts.{curveLimit}
 use Rattle.image.specs.Curve.{breakpointsAt, curveLength}
-use Rattle.image.specs.Circuit.{diodeKind}
-use Rattle.image.specs.Format.{elementSize, curveLimit, highestRate, trailerOf, elementAt, startFrom, firstCurve, conductanceAt}
-use Rattle.image.specs.Opened.{padded}
+use Rattle.image.specs.Format.{elementSize, trailerSize, trailerOf, headerOf, curveStart}
+use Rattle.image.specs.declared.parts.Parts.{Parts}
 use Rattle.image.specs.declared.trailer.Trailer.{Trailer}
 
 -- a whole curve stands at a place
@@ -16,25 +16,20 @@ pub record CurveThere (image : List ℕ) (at : ℕ) : Type 0 where
   pub few : breakpointsAt image at ≤ breakpointCountLimit
   pub whole : at + curveLength (breakpointsAt image at) ≤ length image
 
--- a conductance can be computed, and those of the first n elements can
-pub record Valued (kind value rate : ℕ) : Type 0 where
-  pub small : value < 2 ^ 32
-  pub slow : rate ≤ highestRate
-  pub sampled : 1 ≤ rate
-  pub some : (kind ≡ diodeKind → ⊥) → 1 ≤ value
-
-pub record Measured (image : List ℕ) (n rate : ℕ) : Type 0 where
-  pub few : n ≤ branchLimit
-  pub there : elementSize * n ≤ length image
-  pub slow : rate ≤ highestRate
-  pub sampled : 1 ≤ rate
-  pub some : (j : ℕ) → j < n → (elementAt image j .kind ≡ diodeKind → ⊥) → 1 ≤ elementAt image j .value
-
--- the circuit can be made: an accepted image's trailer, and its conductances
-pub record Laid (image : List ℕ) (t : Trailer) (g : List ℕ) : Type 0 where
+-- the trailer is that of an image that is long enough, its counts are in their limits, and the curves start at `first`
+pub record Headed (image : List ℕ) (t : Trailer) (first curves : ℕ) : Type 0 where
   pub is : t ≡ trailerOf image
-  pub few : t .elements ≤ branchLimit
-  pub room : elementSize * t .elements ≤ length image
-  pub few-curves : t .curves ≤ curveLimit
-  pub starts : (k : ℕ) → k < t .curves → startFrom image (firstCurve t) k < length image
-  pub conductances : g ≡ padded branchLimit (conductanceAt image (t .rate)) (t .elements)
+  pub long : trailerSize ≤ length image
+  pub first-is : first ≡ elementSize * headerOf image .«element_count»
+  pub curves-are : curves ≡ headerOf image .«curve_count»
+  pub few-elements : headerOf image .«element_count» ≤ branchLimit
+  pub few-curves : headerOf image .«curve_count» ≤ curveLimit
+  pub near : t .«curve_distance» < 65536
+
+-- the header is the image's, and its elements and curves are there whole
+pub record Furnished (image : List ℕ) (header : Parts) : Type 0 where
+  pub is : header ≡ headerOf image
+  pub few : header .«element_count» ≤ branchLimit
+  pub room : elementSize * header .«element_count» ≤ length image
+  pub few-curves : header .«curve_count» ≤ curveLimit
+  pub curves : (k : ℕ) → k < header .«curve_count» → CurveThere image (curveStart image k)

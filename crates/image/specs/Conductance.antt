@@ -1,8 +1,13 @@
--- The conductance of an element in nanosiemens, a rule for each kind, cut to a whole number downward. Assumes nothing.
-use mathlib.Core.Bool.{cond}
+-- The conductance of an element in nanosiemens, a rule for each kind, cut to a whole number downward; and rule 6. Assumes nothing.
+use mathlib.Core.Bool.{Bool, _||_, cond}
 use Prim.Native.Nat.{ℕ, _*_, _/_, _^_}
 use lib.Dec.{eqb}
-use Rattle.image.specs.Circuit.{resistorKind, capacitorKind, inductorKind}
+use Rattle.units.specs.Table.{between, every}
+use Rattle.network.specs.Network.{conductanceLimit}
+use Rattle.network.specs.Kind.{resistorKind, capacitorKind, inductorKind, hasCurve}
+use Rattle.image.specs.Parts.{elementOf}
+use Rattle.image.specs.Setting.{Setting}
+use Rattle.image.specs.declared.parts.Parts.{Parts}
 
 -- from ohms
 abbrev pub resistorConductance : ℕ → ℕ
@@ -22,3 +27,14 @@ conductanceBy kind value rate =
     cond (eqb kind resistorKind) (resistorConductance value)
     (cond (eqb kind capacitorKind) (capacitorConductance value rate)
     (cond (eqb kind inductorKind) (inductorConductance value rate) 0))
+
+-- that of element j, at a setting
+abbrev pub conductanceAt : Parts → Setting → ℕ → ℕ
+conductanceAt parts setting j = conductanceBy (elementOf parts j .kind) (elementOf parts j .value) (parts .rate)
+
+-- 6: an element's conductance, where its current goes by one
+abbrev pub conductanceFits : (kind g : ℕ) → Bool
+conductanceFits kind g = hasCurve kind || between 1 conductanceLimit g
+
+unfoldable pub conductancesFit : Parts → Setting → Bool
+conductancesFit parts setting = every (λ (j : ℕ). conductanceFits (elementOf parts j .kind) (conductanceAt parts setting j)) (parts .«element_count»)

@@ -1,10 +1,10 @@
 pub mod Asked
-pub mod Circuit
 pub mod Conductance
 pub mod Curve
 pub mod Examples
 pub mod Format
 pub mod Meaning
 pub mod Opened
+pub mod Parts
+pub mod Setting
 pub mod Sound
-pub mod Tests

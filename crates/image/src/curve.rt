@@ -1,16 +1,17 @@
 // A curve of the image: its own bytes as they lie there, and what is read from them.
 use super::field;
 use super::limits;
+use super::parts::Curve;
 use units::bytes;
-use units::signed;
 ghost use mathlib.Core.Path.{_≡_};
-ghost use Prim.Native.Nat.{ℕ, _+_, _*_, _≤_, _<_};
+ghost use Prim.Native.Nat.{ℕ, suc, _+_, _*_, _≤_, _<_};
+ghost use lib.IntN.{pos};
 ghost use lib.ListN.{length, getD};
-ghost use Rattle.image.specs.Tests.{every};
-ghost use Rattle.image.specs.Curve.{curveBytes, curveLength, slopeOf, breakpointOf};
-ghost use Rattle.image.specs.Format.{curveLimit, startFrom, splits, slopeFits, breakpointFits, rises, curveFits, curvesFit};
+ghost use Rattle.units.specs.Table.{padded, every};
+ghost use Rattle.network.specs.Network.{breakpointCountLimit};
+ghost use Rattle.image.specs.Parts.{curveLimit, noCurve};
+ghost use Rattle.image.specs.Curve.{curveBytes, curveLength, slopeOf, breakpointOf, curveIn, startFrom, splits, paddingFits};
 ghost use Rattle.image.specs.Asked.{CurveThere};
-ghost use Rattle.image.specs.Opened.{padded};
 
 // How many bytes a curve of m breakpoints has.
 fn curve_length(m: usize) -> usize
@@ -58,6 +59,60 @@ pub fn breakpoint(bytes: &[u8], j: usize) -> i64
     bytes::i32_at(bytes, 8 + 4 * breakpoint_count(bytes) + 4 * j)
 }
 
+// The first n slopes.
+fn slopes(bytes: &[u8], n: usize) -> [u32; 17]
+    requires { ⌜ (n ≤ suc breakpointCountLimit) × (4 + 4 * n ≤ length (now bytes)) ⌝ }
+    ensures { λ r. ⌜ r ≡ padded 0 (suc breakpointCountLimit) (slopeOf (now (bytes .entry))) n ⌝ }
+{
+    let mut slopes = [0; 17];
+    let mut j: usize = 0;
+    while j < n {
+        slopes[j] = slope(bytes, j) as u32;
+        j += 1;
+    }
+    slopes
+}
+
+// The first n breakpoints.
+fn breakpoints(bytes: &[u8], n: usize) -> [i32; 16]
+    requires { ⌜ (n ≤ breakpointCountLimit) × (8 + 4 * getD (now bytes) 0 0 + 4 * n ≤ length (now bytes)) ⌝ }
+    ensures { λ r. ⌜ r ≡ padded (pos 0) breakpointCountLimit (breakpointOf (now (bytes .entry))) n ⌝ }
+{
+    let mut breakpoints = [0; 16];
+    let mut j: usize = 0;
+    while j < n {
+        breakpoints[j] = breakpoint(bytes, j) as i32;
+        j += 1;
+    }
+    breakpoints
+}
+
+// The curve of those bytes.
+fn curve_in(bytes: &[u8]) -> Curve
+    requires { ⌜ (getD (now bytes) 0 0 ≤ breakpointCountLimit) × (length (now bytes) ≡ curveLength (getD (now bytes) 0 0)) ⌝ }
+    ensures { λ r. ⌜ r ≡ curveIn (now (bytes .entry)) ⌝ }
+{
+    let m = breakpoint_count(bytes);
+    let slopes = slopes(bytes, m + 1);
+    let breakpoints = breakpoints(bytes, m);
+    Curve {
+        count: bytes[0],
+        slopes,
+        breakpoints,
+    }
+}
+
+// What stands where there is no curve.
+pub fn none() -> Curve
+    ensures { λ r. ⌜ r ≡ noCurve ⌝ }
+{
+    Curve {
+        count: 0,
+        slopes: [0; 17],
+        breakpoints: [0; 16],
+    }
+}
+
 // Whether `count` curves from `first` on have sizes in range and end at `end`.
 pub fn split(image: &[u8], first: usize, count: usize, end: usize) -> bool
     ensures { λ r. ⌜ r ≡ splits (now (image .entry)) first count end ⌝ }
@@ -78,89 +133,42 @@ pub fn split(image: &[u8], first: usize, count: usize, end: usize) -> bool
     at == end
 }
 
-// Where each of those curves starts.
-pub fn starts(image: &[u8], first: usize, count: usize) -> [usize; 8]
-    requires { ⌜ (count ≤ curveLimit) × ((k : ℕ) → k < count → startFrom (now image) first k < length (now image)) ⌝ }
-    ensures { λ r. ⌜ r ≡ padded curveLimit (startFrom (now (image .entry)) first) count ⌝ }
+// Those curves.
+pub fn curves_at(image: &[u8], first: usize, count: usize) -> [Curve; 8]
+    requires { ⌜ (count ≤ curveLimit) × ((k : ℕ) → k < count → CurveThere (now image) (startFrom (now image) first k)) ⌝ }
+    ensures { λ r. ⌜ r ≡ padded noCurve curveLimit (λ (k : ℕ). curveIn (curveBytes (now (image .entry)) (startFrom (now (image .entry)) first k))) count ⌝ }
 {
-    let mut s = [0; 8];
+    let none = none();
+    let mut curves = [none; 8];
     let mut at = first;
     let mut k: usize = 0;
     while k < count {
-        s[k] = at;
-        at += curve_length(field::byte(image, at));
+        let bytes = curve_at(image, at);
+        curves[k] = curve_in(bytes);
+        at += bytes.len();
         k += 1;
     }
-    s
+    curves
 }
 
-fn slopes_fit(bytes: &[u8], n: usize) -> bool
-    requires { ⌜ 4 + 4 * n ≤ length (now bytes) ⌝ }
-    ensures { λ r. ⌜ r ≡ every (slopeFits (now (bytes .entry))) n ⌝ }
+// Whether a curve's padding is zero.
+fn padding_fits(bytes: &[u8]) -> bool
+    requires { ⌜ 4 ≤ length (now bytes) ⌝ }
+    ensures { λ r. ⌜ r ≡ paddingFits (now (bytes .entry)) ⌝ }
 {
-    let mut j: usize = 0;
-    while j < n {
-        if limits::CONDUCTANCE < slope(bytes, j) {
-            return false;
-        }
-        j += 1;
-    }
-    true
+    (bytes[1] == 0) & (bytes[2] == 0) & (bytes[3] == 0)
 }
 
-fn breakpoints_fit(bytes: &[u8], n: usize) -> bool
-    requires { ⌜ 8 + 4 * getD (now bytes) 0 0 + 4 * n ≤ length (now bytes) ⌝ }
-    ensures { λ r. ⌜ r ≡ every (breakpointFits (now (bytes .entry))) n ⌝ }
-{
-    let mut j: usize = 0;
-    while j < n {
-        if limits::BREAKPOINT < signed::size(breakpoint(bytes, j)) {
-            return false;
-        }
-        j += 1;
-    }
-    true
-}
-
-// Whether breakpoints 0 to n rise, each above the one before.
-fn rising(bytes: &[u8], n: usize) -> bool
-    requires { ⌜ 12 + 4 * getD (now bytes) 0 0 + 4 * n ≤ length (now bytes) ⌝ }
-    ensures { λ r. ⌜ r ≡ every (rises (now (bytes .entry))) n ⌝ }
-{
-    let mut j: usize = 0;
-    while j < n {
-        if !signed::less(breakpoint(bytes, j), breakpoint(bytes, j + 1)) {
-            return false;
-        }
-        j += 1;
-    }
-    true
-}
-
-// Whether a curve's padding, slopes and breakpoints are as they should be.
-fn curve_fits(bytes: &[u8]) -> bool
-    requires { ⌜ (1 ≤ getD (now bytes) 0 0) × (length (now bytes) ≡ curveLength (getD (now bytes) 0 0)) ⌝ }
-    ensures { λ r. ⌜ r ≡ curveFits (now (bytes .entry)) ⌝ }
-{
-    let m = breakpoint_count(bytes);
-    (bytes[1] == 0)
-        & (bytes[2] == 0)
-        & (bytes[3] == 0)
-        & slopes_fit(bytes, m + 1)
-        & breakpoints_fit(bytes, m)
-        & rising(bytes, m - 1)
-}
-
-// Whether those of `count` curves from `first` on are.
-pub fn curves_fit(image: &[u8], first: usize, count: usize) -> bool
+// Whether that of each of those curves is.
+pub fn paddings_fit(image: &[u8], first: usize, count: usize) -> bool
     requires { ⌜ ((k : ℕ) → k < count → CurveThere (now image) (startFrom (now image) first k)) ⌝ }
-    ensures { λ r. ⌜ r ≡ curvesFit (now (image .entry)) first count ⌝ }
+    ensures { λ r. ⌜ r ≡ every (λ (k : ℕ). paddingFits (curveBytes (now (image .entry)) (startFrom (now (image .entry)) first k))) count ⌝ }
 {
     let mut at = first;
     let mut k: usize = 0;
     while k < count {
         let bytes = curve_at(image, at);
-        if !curve_fits(bytes) {
+        if !padding_fits(bytes) {
             return false;
         }
         at += bytes.len();

@@ -1,91 +1,53 @@
-// An element of the image, eight bytes.
-use super::field;
+// The elements as they lie in the image, eight bytes each.
 use super::limits;
+use super::parts::Element;
 use units::bytes;
 ghost use mathlib.Core.Path.{_≡_};
-ghost use Prim.Native.Nat.{ℕ, _+_, _*_, _^_, _≤_, _<_};
-ghost use lib.ListN.{length, getD};
+ghost use Prim.Native.Nat.{_+_, _*_, _≤_};
+ghost use lib.ListN.{length};
+ghost use Rattle.units.specs.Table.{padded};
 ghost use Rattle.network.specs.Network.{branchLimit};
-ghost use Rattle.image.specs.Tests.{every};
-ghost use Rattle.image.specs.Format.{elementSize, elementAt, elementFits};
-ghost use Rattle.image.specs.Opened.{padded};
+ghost use Rattle.image.specs.Parts.{noElement};
+ghost use Rattle.image.specs.Format.{elementSize, elementAt};
 
-pub struct Element {
-    pub kind: usize,
-    pub p: usize,
-    pub q: usize,
-    pub curve: usize,
-    // Ohms, picofarads or microhenries.
-    pub value: u64,
-}
-
-pub fn element_at(image: &[u8], j: usize) -> Element
+fn element_at(image: &[u8], j: usize) -> Element
     requires { ⌜ elementSize * j + elementSize ≤ length (now image) ⌝ }
-    ensures { λ r. ⌜ (r ≡ elementAt (now (image .entry)) j) × (r .value < 2 ^ 32) ⌝ }
+    ensures { λ r. ⌜ r ≡ elementAt (now (image .entry)) j ⌝ }
 {
     let at = limits::ELEMENT * j;
     Element {
-        kind: field::byte(image, at),
-        p: field::byte(image, at + 1),
-        q: field::byte(image, at + 2),
-        curve: field::byte(image, at + 3),
-        value: bytes::u32_at(image, at + 4),
+        kind: image[at],
+        p: image[at + 1],
+        q: image[at + 2],
+        curve: image[at + 3],
+        value: bytes::u32_at(image, at + 4) as u32,
     }
 }
 
-// Whether an element's fields are in their ranges.
-fn element_fits(e: Element, nodes: usize, curves: usize) -> bool
-    ensures { λ r. ⌜ r ≡ elementFits nodes curves e ⌝ }
+// What stands where there is no element.
+pub fn none() -> Element
+    ensures { λ r. ⌜ r ≡ noElement ⌝ }
 {
-    let ends = ((limits::RESISTOR <= e.kind) & (e.kind <= limits::DIODE))
-        & (e.p <= nodes)
-        & (e.q <= nodes)
-        & (e.p != e.q);
-    if e.kind == limits::DIODE {
-        return ends & ((e.curve < curves) & (e.value == 0));
+    Element {
+        kind: 0,
+        p: 0,
+        q: 0,
+        curve: 0,
+        value: 0,
     }
-    ends & ((e.curve == 0) & (1 <= e.value))
 }
 
-// Whether those of the first n elements are.
-pub fn elements_fit(image: &[u8], n: usize, nodes: usize, curves: usize) -> bool
-    requires { ⌜ elementSize * n ≤ length (now image) ⌝ }
-    ensures { λ r. ⌜ r ≡ every (λ (j : ℕ). elementFits nodes curves (elementAt (now (image .entry)) j)) n ⌝ }
-{
-    let mut j: usize = 0;
-    while j < n {
-        if !element_fits(element_at(image, j), nodes, curves) {
-            return false;
-        }
-        j += 1;
-    }
-    true
-}
-
-// The kinds of the first n elements.
-pub fn kinds(image: &[u8], n: usize) -> [u8; 32]
+// The first n elements.
+pub fn elements_at(image: &[u8], n: usize) -> [Element; 32]
     requires { ⌜ (n ≤ branchLimit) × (elementSize * n ≤ length (now image)) ⌝ }
-    ensures { λ r. ⌜ r ≡ padded branchLimit (λ (j : ℕ). elementAt (now (image .entry)) j .kind) n ⌝ }
+    ensures { λ r. ⌜ r ≡ padded noElement branchLimit (elementAt (now (image .entry))) n ⌝ }
 {
-    let mut a = [0; 32];
+    let none = none();
+    let mut elements = [none; 32];
     let mut j: usize = 0;
     while j < n {
-        a[j] = image[limits::ELEMENT * j];
+        elements[j] = element_at(image, j);
         j += 1;
     }
-    a
-}
-
-// The byte at one place of each of them: a node, or a curve's index.
-pub fn column(image: &[u8], n: usize, place: usize) -> [usize; 32]
-    requires { ⌜ (n ≤ branchLimit) × ((elementSize * n ≤ length (now image)) × (place < elementSize)) ⌝ }
-    ensures { λ r. ⌜ r ≡ padded branchLimit (λ (j : ℕ). getD (now (image .entry)) (elementSize * j + place) 0) n ⌝ }
-{
-    let mut a = [0; 32];
-    let mut j: usize = 0;
-    while j < n {
-        a[j] = field::byte(image, limits::ELEMENT * j + place);
-        j += 1;
-    }
-    a
+    elements
 }

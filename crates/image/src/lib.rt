@@ -1,20 +1,24 @@
-// The image: bytes to a circuit, or the number of the rule that they break. Reads any bytes whatever,
-// writes nothing, and copies no curve: curves stay in the lent image and are handed out as parts of it.
-mod circuit;
-mod conductance;
+// The image: bytes to a circuit's parts, or the number of the rule that they break. Reads any bytes
+// whatever and writes nothing. A curve is read from the part of the lent image that it is.
+mod conductances;
 mod curve;
 mod element;
 mod field;
 mod limits;
+mod parts;
 mod reader;
+mod rules;
 mod trailer;
 
-pub use circuit::Circuit;
+pub use conductances::conductance;
+pub use conductances::conductances_fit;
+pub use conductances::leak;
 pub use curve::breakpoint;
 pub use curve::breakpoint_count;
 pub use curve::curve_at;
 pub use curve::slope;
-pub use reader::Answer;
+pub use parts::Curve;
+pub use parts::Element;
+pub use parts::Parts;
 pub use reader::Opened;
-pub use reader::number_of;
 pub use reader::read;

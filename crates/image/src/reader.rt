@@ -1,49 +1,23 @@
-// The reader: six rules in the order of their numbers, then the circuit.
-use super::circuit::Circuit;
-use super::conductance;
+// The reader: five rules in the order of their numbers. Rule 6 is not a rule of reading: it is
+// `conductances_fit`, over the parts.
 use super::curve;
 use super::element;
 use super::limits;
+use super::parts::Parts;
+use super::rules;
 use super::trailer;
 use super::trailer::Trailer;
+use units::number::Number;
 ghost use mathlib.Core.Path.{_≡_};
-ghost use Prim.Native.Nat.{_≤_, _<_};
-ghost use lib.ListN.{length};
-ghost use Rattle.image.specs.Format.{trailerSize, lengthFits, sizesFit};
-ghost use Rattle.image.specs.Opened.{numberOf, circuitIn, noCircuit, Read};
-ghost use Rattle.image.specs.Asked.{Laid};
-ghost use Rattle.image.specs.Meaning.{leakOf};
+ghost use Rattle.image.specs.Parts.{noParts};
+ghost use Rattle.image.specs.Format.{lengthFits, sizesFit, partsOf};
+ghost use Rattle.image.specs.Opened.{Read};
+ghost use Rattle.image.specs.Asked.{Headed, Furnished};
 
-// Whether an image is accepted, or which rule it breaks.
-pub enum Answer {
-    Accepted,
-    Length,
-    Trailer,
-    Sizes,
-    Curves,
-    Elements,
-    Conductances,
-}
-
-// The answer, and the circuit if the image is accepted; zeros if not.
+// The number, and the parts if the image is opened; zeros if not.
 pub struct Opened {
-    pub answer: Answer,
-    pub circuit: Circuit,
-}
-
-// Document 01's number of an answer.
-pub fn number_of(answer: Answer) -> u64
-    ensures { λ r. ⌜ r ≡ numberOf answer ⌝ }
-{
-    match answer {
-        Answer::Accepted => 0,
-        Answer::Length => 1,
-        Answer::Trailer => 2,
-        Answer::Sizes => 3,
-        Answer::Curves => 4,
-        Answer::Elements => 5,
-        Answer::Conductances => 6,
-    }
+    pub number: Number,
+    pub parts: Parts,
 }
 
 fn length_fits(n: usize) -> bool
@@ -52,74 +26,48 @@ fn length_fits(n: usize) -> bool
     (limits::SHORTEST <= n) & (n <= limits::LONGEST)
 }
 
-// Whether the distances are right and the curves fill the bytes up to the trailer.
-fn sizes_fit(image: &[u8], t: Trailer) -> bool
-    requires { ⌜ (trailerSize ≤ length (now image)) × ((t .elements < 256) × (t .«curve_distance» < 65536)) ⌝ }
-    ensures { λ r. ⌜ r ≡ sizesFit (now (image .entry)) t ⌝ }
+// Whether the distances are right and the curves fill the bytes from `first` up to the trailer.
+fn sizes_fit(image: &[u8], t: Trailer, first: usize, curves: usize) -> bool
+    requires { ⌜ Headed (now image) t first curves ⌝ }
+    ensures { λ r. ⌜ r ≡ sizesFit (now (image .entry)) ⌝ }
 {
     let before = image.len() - limits::TRAILER;
-    let first = limits::ELEMENT * t.elements;
     (t.element_distance == before)
         & (first + t.curve_distance == before)
-        & curve::split(image, first, t.curves, before)
+        & curve::split(image, first, curves, before)
 }
 
-// The leak of a version.
-fn leak(version: usize) -> u64
-    ensures { λ r. ⌜ r ≡ leakOf version ⌝ }
+// The parts, given what the trailer says of them.
+fn filled(image: &[u8], header: Parts) -> Parts
+    requires { ⌜ Furnished (now image) header ⌝ }
+    ensures { λ r. ⌜ r ≡ partsOf (now (image .entry)) ⌝ }
 {
-    1
+    let n = header.element_count as usize;
+    let elements = element::elements_at(image, n);
+    let curves = curve::curves_at(image, limits::ELEMENT * n, header.curve_count as usize);
+    let mut parts = header;
+    parts.elements = elements;
+    parts.curves = curves;
+    parts
 }
 
-fn empty() -> Circuit
-    ensures { λ r. ⌜ r ≡ noCircuit ⌝ }
+fn refused(number: Number) -> Opened
+    ensures { λ r. ⌜ (r .number ≡ number) × (r .parts ≡ noParts) ⌝ }
 {
-    Circuit {
-        leak: 0,
+    let no_element = element::none();
+    let no_curve = curve::none();
+    let parts = Parts {
+        version: 0,
         nodes: 0,
         driven: 0,
         output: 0,
-        count: 0,
-        kind: [0; 32],
-        p: [0; 32],
-        q: [0; 32],
-        conductance: [0; 32],
-        curve: [0; 32],
-        start: [0; 8],
-    }
-}
-
-// The circuit of an accepted image, whose conductances are g.
-fn circuit(image: &[u8], t: Trailer, g: [u64; 32]) -> Circuit
-    requires { ⌜ Laid (now image) t g ⌝ }
-    ensures { λ r. ⌜ r ≡ circuitIn (now (image .entry)) ⌝ }
-{
-    let n = t.elements;
-    let kind = element::kinds(image, n);
-    let p = element::column(image, n, 1);
-    let q = element::column(image, n, 2);
-    let curve = element::column(image, n, 3);
-    let start = curve::starts(image, limits::ELEMENT * n, t.curves);
-    Circuit {
-        leak: leak(t.version),
-        nodes: t.nodes,
-        driven: t.driven,
-        output: t.output,
-        count: n,
-        kind,
-        p,
-        q,
-        conductance: g,
-        curve,
-        start,
-    }
-}
-
-fn refused(answer: Answer) -> Opened
-    ensures { λ r. ⌜ (r .answer ≡ answer) × (r .circuit ≡ noCircuit) ⌝ }
-{
-    let circuit = empty();
-    Opened { answer, circuit }
+        rate: 0,
+        element_count: 0,
+        elements: [no_element; 32],
+        curve_count: 0,
+        curves: [no_curve; 8],
+    };
+    Opened { number, parts }
 }
 
 // Reads any bytes whatever. The lowest number that applies is the answer.
@@ -127,28 +75,29 @@ pub fn read(image: &[u8]) -> Opened
     ensures { λ r. ⌜ Read (now (image .entry)) r ⌝ }
 {
     if !length_fits(image.len()) {
-        return refused(Answer::Length);
+        return refused(Number::Length);
     }
-    let t = trailer::trailer_at(image, image.len() - limits::TRAILER);
-    if !trailer::trailer_fits(t) {
-        return refused(Answer::Trailer);
+    let at = image.len() - limits::TRAILER;
+    let t = trailer::trailer_at(image, at);
+    let header = trailer::header_at(image, at);
+    if !trailer::trailer_fits(t, header) {
+        return refused(Number::Trailer);
     }
-    if !sizes_fit(image, t) {
-        return refused(Answer::Sizes);
+    let first = limits::ELEMENT * (header.element_count as usize);
+    let n = header.curve_count as usize;
+    if !sizes_fit(image, t, first, n) {
+        return refused(Number::Sizes);
     }
-    if !curve::curves_fit(image, limits::ELEMENT * t.elements, t.curves) {
-        return refused(Answer::Curves);
+    let parts = filled(image, header);
+    let curves = parts.curves;
+    if !(curve::paddings_fit(image, first, n) & rules::curves_fit(curves, n)) {
+        return refused(Number::Curve);
     }
-    if !element::elements_fit(image, t.elements, t.nodes, t.curves) {
-        return refused(Answer::Elements);
+    if !rules::elements_fit(parts) {
+        return refused(Number::Element);
     }
-    let g = conductance::conductances(image, t.elements, t.rate);
-    if !conductance::conductances_fit(image, t.elements, t.rate, &g) {
-        return refused(Answer::Conductances);
-    }
-    let circuit = circuit(image, t, g);
     Opened {
-        answer: Answer::Accepted,
-        circuit,
+        number: Number::Done,
+        parts,
     }
 }

@@ -1,23 +1,24 @@
 // The trailer: the last 16 bytes of the image, which point back and say how many there are of what.
+use super::curve;
+use super::element;
 use super::field;
 use super::limits;
+use super::parts::Parts;
+use super::rules;
 use units::bytes;
 ghost use mathlib.Core.Path.{_≡_};
+ghost use mathlib.Core.Bool.{_&&_};
 ghost use Prim.Native.Nat.{_+_, _≤_, _<_};
+ghost use lib.Dec.{eqb};
 ghost use lib.ListN.{length};
-ghost use Rattle.image.specs.Format.{trailerSize, trailerAt, trailerFits};
+ghost use Rattle.image.specs.Parts.{headerFits};
+ghost use Rattle.image.specs.Format.{trailerSize, trailerAt, headerAt};
 
+// The layout's own fields.
 pub struct Trailer {
     // From the trailer's first byte back to the first element, and to the first curve byte.
     pub element_distance: usize,
     pub curve_distance: usize,
-    pub elements: usize,
-    pub curves: usize,
-    pub nodes: usize,
-    pub driven: usize,
-    pub rate: u64,
-    pub output: usize,
-    pub version: usize,
     pub size: usize,
 }
 
@@ -29,27 +30,33 @@ pub fn trailer_at(image: &[u8], at: usize) -> Trailer
     Trailer {
         element_distance: field::short(image, at),
         curve_distance: field::short(image, at + 2),
-        elements: field::byte(image, at + 4),
-        curves: field::byte(image, at + 5),
-        nodes: field::byte(image, at + 6),
-        driven: field::byte(image, at + 7),
-        rate: bytes::u32_at(image, at + 8),
-        output: field::byte(image, at + 12),
-        version: field::byte(image, at + 13),
         size: field::short(image, at + 14),
     }
 }
 
-// Whether every field but the distances is in its range.
-pub fn trailer_fits(t: Trailer) -> bool
-    ensures { λ r. ⌜ r ≡ trailerFits t ⌝ }
+// What it says of the parts: all but the elements and the curves.
+pub fn header_at(image: &[u8], at: usize) -> Parts
+    requires { ⌜ at + trailerSize ≤ length (now image) ⌝ }
+    ensures { λ r. ⌜ r ≡ headerAt (now (image .entry)) at ⌝ }
 {
-    ((1 <= t.elements) & (t.elements <= limits::ELEMENTS))
-        & (t.curves <= limits::CURVES)
-        & ((1 <= t.nodes) & (t.nodes <= limits::NODES))
-        & (t.driven <= t.nodes)
-        & ((limits::LOWEST_RATE <= t.rate) & (t.rate <= limits::HIGHEST_RATE))
-        & ((1 <= t.output) & (t.output <= t.nodes))
-        & (t.version == limits::VERSION)
-        & (t.size == limits::TRAILER)
+    let no_element = element::none();
+    let no_curve = curve::none();
+    Parts {
+        version: image[at + 13],
+        nodes: image[at + 6],
+        driven: image[at + 7],
+        output: image[at + 12],
+        rate: bytes::u32_at(image, at + 8) as u32,
+        element_count: image[at + 4],
+        elements: [no_element; 32],
+        curve_count: image[at + 5],
+        curves: [no_curve; 8],
+    }
+}
+
+// Whether every field but the distances is in its range.
+pub fn trailer_fits(t: Trailer, header: Parts) -> bool
+    ensures { λ r. ⌜ r ≡ (headerFits header && eqb (t .size) trailerSize) ⌝ }
+{
+    rules::header_fits(header) & (t.size == limits::TRAILER)
 }

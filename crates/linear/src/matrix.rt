@@ -3,8 +3,7 @@
 // subtraction. Vectors have a place for each node, ground's first.
 //
 // Off the diagonal nothing is above zero, and no row's sum is below: no pivot has to be searched for.
-ghost use mathlib.Core.Path.{_≡_};
-ghost use Prim.Native.Nat.{ℕ, _≤_, _<_};
+ghost use Prim.Native.Nat.{_≤_, _<_};
 
 // What comes of an elimination: x, unless a pivot was zero or below, or a NaN.
 pub struct Solution {

@@ -11,8 +11,7 @@
 // Voltages here are what is added to whole microvolts, so a tie's difference is a whole number too.
 use crate::matrix;
 use crate::whole;
-ghost use mathlib.Core.Path.{_≡_};
-ghost use Prim.Native.Nat.{ℕ, _≤_, _<_};
+ghost use Prim.Native.Nat.{_≤_, _<_};
 
 // Which node a node is tied to, 0 for none, and by what difference; and where all nodes stand then.
 pub struct Ties {
@@ -41,8 +40,8 @@ const LEAST_STIFFNESS: f64 = 4.0;
 // Lower than anything stands.
 const LOWEST: f64 = -9007199254740992.0;
 
-// A place of 16, whatever the number.
-fn place(i: usize) -> usize
+// A node, whatever the number: past the last it is none.
+fn node(i: usize) -> usize
     ensures { λ r. ⌜ r ≤ 15 ⌝ }
 {
     if i < 16 { i } else { 0 }
@@ -56,7 +55,7 @@ fn root(to: &[usize; 16], i: usize) -> usize
     let mut r = i;
     let mut k: usize = 0;
     while k < 16 {
-        let next = place(to[r]);
+        let next = node(to[r]);
         if next == 0 {
             return r;
         }
@@ -80,7 +79,7 @@ fn tie_rows(
     let empty = [0.0f64; 15];
     let mut k = first;
     while k < end {
-        let other = place(to[k + 1]);
+        let other = node(to[k + 1]);
         if 0 < other {
             a[k] = empty;
             a[k][k] = 1.0;
@@ -171,25 +170,26 @@ fn solved(m: &[[f64; 15]; 15], b: &[f64; 16], ties: Ties, first: usize, end: usi
     Ties { to, by, at }
 }
 
-// Row s is added to row r, and column s to column r.
-fn add_rows(c: &mut [[f64; 15]; 15], r: usize, s: usize, end: usize)
+// What row k has in column l goes to row i, column j.
+fn pour(c: &mut [[f64; 15]; 15], i: usize, j: usize, k: usize, l: usize)
+    requires { ⌜ (i < 15) × (j < 15) × (k < 15) × (l < 15) ⌝ }
+{
+    c[i][j] = c[i][j] + c[k][l];
+    c[k][l] = 0.0;
+}
+
+// Row s is added to row r, and then column s to column r.
+fn add(c: &mut [[f64; 15]; 15], r: usize, s: usize, end: usize)
     requires { ⌜ (r < 15) × (s < 15) × (end ≤ 15) ⌝ }
 {
     let mut j: usize = 0;
     while j < end {
-        c[r][j] = c[r][j] + c[s][j];
-        c[s][j] = 0.0;
+        pour(c, r, j, s, j);
         j += 1;
     }
-}
-
-fn add_columns(c: &mut [[f64; 15]; 15], r: usize, s: usize, end: usize)
-    requires { ⌜ (r < 15) × (s < 15) × (end ≤ 15) ⌝ }
-{
     let mut i: usize = 0;
     while i < end {
-        c[i][r] = c[i][r] + c[i][s];
-        c[i][s] = 0.0;
+        pour(c, i, r, i, s);
         i += 1;
     }
 }
@@ -200,13 +200,12 @@ fn merge(c: &mut [[f64; 15]; 15], r: usize, s: usize, end: usize)
     requires { ⌜ (r ≤ 15) × (s ≤ 15) × (end ≤ 15) ⌝ }
 {
     if 0 < r && 0 < s {
-        add_rows(c, r - 1, s - 1, end);
-        add_columns(c, r - 1, s - 1, end);
+        add(c, r - 1, s - 1, end);
     }
 }
 
 // The matrix of the sets that these ties make, each under its root.
-fn sets(m: &[[f64; 15]; 15], to: &[usize; 16], end: usize) -> [[f64; 15]; 15]
+fn merged(m: &[[f64; 15]; 15], to: &[usize; 16], end: usize) -> [[f64; 15]; 15]
     requires { ⌜ end ≤ 15 ⌝ }
 {
     let mut c = *m;
@@ -294,7 +293,7 @@ fn tied(ties: Ties, r: usize, s: usize, d: f64) -> Ties
 }
 
 // One of two ways is taken. The other is put aside, if none that was stands higher.
-fn taken(ways: Ways, way: Ties, other: Ties, high: f64) -> Ways {
+fn chosen(ways: Ways, way: Ties, other: Ties, high: f64) -> Ways {
     if ways.height < high {
         return Ways {
             taken: way,
@@ -319,9 +318,9 @@ fn higher(ways: Ways, one: Ties, two: Ties, end: usize) -> Ways
     let one_high = height(&one_at, end);
     let two_high = height(&two_at, end);
     if one_high < two_high {
-        return taken(ways, two, one, one_high);
+        return chosen(ways, two, one, one_high);
     }
-    taken(ways, one, two, two_high)
+    chosen(ways, one, two, two_high)
 }
 
 // Two roots are tied by d, which spares the first, or by one more, which spares the second.
@@ -375,12 +374,12 @@ fn grown(m: &[[f64; 15]; 15], b: &[f64; 16], start: Ties, first: usize, end: usi
         height: LOWEST,
     };
     let to = start.to;
-    let mut c = sets(m, &to, end);
+    let mut c = merged(m, &to, end);
     let mut turn: usize = 0;
     while turn < 15 {
         let link = stiffest(&c, first, end);
-        let p = place(link.p);
-        let q = place(link.q);
+        let p = node(link.p);
+        let q = node(link.q);
         if p == 0 {
             return ways;
         }

@@ -11,11 +11,12 @@ use lib.ListN.{length, getD, List·getD-append}
 use lib.Seq.{getD-append-seam}
 use lib.IntN.{ℤ, pos, negℤ, natAbs, _+ℤ_}
 use lib.Signed.{_≤ℤ_, _<ℤ_, leZ, ltZ}
-use Rattle.units.specs.Integer.{lower, higher, sum, total}
+use Rattle.units.specs.Integer.{up, dn, lower, higher, sum, total}
 use Rattle.units.specs.Voltage.{voltageLimit, driveLimit, within}
-use Rattle.units.proofs.Integers.{up, dn, signs, le-out, eq-out, add-law, neg-law, pos-law, abs-law, scale-one, Reach, decide, decideN}
+use Rattle.units.proofs.Integers.{signs, le-out, eq-out, add-law, neg-law, pos-law, abs-law, scale-one, Reach, decide, decideN}
+use Rattle.units.specs.Number.{numberOf}
 use Rattle.network.specs.Network.{noBranch, Network, Free, reading, ramp, current, leaving, net, conductanceOf, greatest, steepestOf, heldBy, steepestBy, held, steepest, advance, next, storedLimit, Wired}
-use Rattle.network.specs.Sample.{Drives, Legal, Answer, Empty, numberOf, Gives}
+use Rattle.network.specs.Sample.{Drives, Legal, Answer, Empty, answerOf, Gives}
 use Rattle.network.specs.Bound.{LeastEnough}
 use Rattle.network.specs.Cases.{Circuit, networkOf, Result, settles, rail, voltages, outcomeOf, Case, sample, bound, Holds, AllHold, cases}
 use Rattle.network.proofs.Nodes.{by-node}
@@ -108,7 +109,7 @@ resultTests c stored drives (settles z after) =
 resultTests c stored drives rail = (ltZ (pos 0) (netAt c stored drives (negℤ (pos voltageLimit))) || leZ (netAt c stored drives (pos voltageLimit)) (pos 0)) ∷ []
 
 abbrev passes : Case → Bool
-passes (sample c stored drives n r) = allOf (sampleTests c drives) && (allOf (resultTests c stored drives r) && eqb (numberOf (outcomeOf drives r)) n)
+passes (sample c stored drives n r) = allOf (sampleTests c drives) && (allOf (resultTests c stored drives r) && eqb (numberOf (answerOf (outcomeOf drives r))) n)
 passes (bound c zero) = false
 passes (bound c (suc B)) =
     let N = networkOf c in
@@ -237,10 +238,10 @@ result-sound c stored drives rail ok h = rail-sound c stored drives ok h
 sound : (c : Case) → T (passes c) → Holds c
 sound (sample c stored drives n r) h =
     let result = allOf (resultTests c stored drives r) in
-    let number = eqb (numberOf (outcomeOf drives r)) n in
+    let number = eqb (numberOf (answerOf (outcomeOf drives r))) n in
     let k = and-both (allOf (sampleTests c drives)) (result && number) h in
     let m = and-both result number (k .1) in
-    (result-sound c stored drives r (k .0) (m .0), eqb→eq (numberOf (outcomeOf drives r)) n (m .1))
+    (result-sound c stored drives r (k .0) (m .0), eqb→eq (numberOf (answerOf (outcomeOf drives r))) n (m .1))
 sound (bound c zero) h = absurd h
 sound (bound c (suc B)) h = bound-sound c B h
 

@@ -17,13 +17,13 @@ use Rattle.units.proofs.Integers.{signs, add-law, sub-law, neg-law, pos-law, ab
 use Rattle.units.proofs.Sizes.{abs-within}
 use Rattle.network.specs.Network.{Network, Fixed, Free, reading, net, Wired}
 use Rattle.network.specs.Sample.{Drives, Legal, Low, Under, Answer}
-use Rattle.network.specs.Search.{lowered, still, raised, Visit, Through}
+use Rattle.network.specs.Search.{lowered, still, raised, Visit, Through, height}
 use Rattle.network.proofs.Nodes.{by-node, find}
 use Rattle.network.proofs.Compare.{others-rise}
 use Rattle.network.proofs.Hold.{same-fixed, keep-drives}
 use Rattle.network.proofs.Lowering.{lowered-law, lowered-here, lowered-under, store-lowers}
 use Rattle.network.proofs.Descend.{descend, sunk-one}
-use Rattle.network.proofs.Measures.{height, height-falls}
+use Rattle.network.proofs.Measures.{height-falls}
 
 -- ---- the visit
 

@@ -9,7 +9,8 @@ use lib.Dec.{eqb}
 use lib.IntN.{*ℤ-zero, ℤ, pos, natAbs, _+ℤ_, _-ℤ_, _*ℤ_}
 use lib.Signed.{_≤ℤ_}
 use Rattle.units.specs.Voltage.{voltageLimit}
-use Rattle.units.proofs.Integers.{up, dn, signs, eq-out, add-law, sub-law, pos-law, abs-law, scale-law, scale-one, Rise, Reach, decideN}
+use Rattle.units.specs.Integer.{up, dn}
+use Rattle.units.proofs.Integers.{signs, eq-out, add-law, sub-law, pos-law, abs-law, scale-law, scale-one, Rise, Reach, decideN}
 use Rattle.units.proofs.Sizes.{abs-within}
 use Rattle.network.specs.Network.{Network, Fixed, Free, net, held, steepest, Wired, InLimits}
 use Rattle.network.specs.Sample.{Drives, Legal, Low, Under, Answer, BelowTop, accepted, Gives}

@@ -7,7 +7,8 @@ use native.Mathlib.Omega.{arith}
 use lib.ListN.{length, set}
 use lib.IntN.{ℤ, pos, _-ℤ_}
 use lib.Signed.{_≤ℤ_, _<ℤ_}
-use Rattle.units.proofs.Integers.{up, dn, signs, sub-law, pos-law, eq-out, Reach, decideN}
+use Rattle.units.specs.Integer.{up, dn}
+use Rattle.units.proofs.Integers.{signs, sub-law, pos-law, eq-out, Reach, decideN}
 use Rattle.network.specs.Network.{Network, Free, reading, net, steepest, Wired}
 use Rattle.network.specs.Sample.{Drives, Legal, Low, Under}
 use Rattle.network.specs.Search.{lowered, Sank, still, sunk}

@@ -9,16 +9,16 @@ use lib.Dec.{leb}
 use borrow.Author.Tests.{le-leb, lt-leb}
 use lib.IntN.{ℤ, pos, natAbs, _-ℤ_, _*ℤ_}
 use lib.Signed.{_≤ℤ_, _<ℤ_}
-use Rattle.units.specs.Voltage.{voltageLimit, driveLimit}
+use Rattle.units.specs.Voltage.{voltageLimit, driveLimit, bottom}
 use Rattle.units.proofs.Integers.{signs, sub-law, pos-law, abs-law, decide, decideN}
 use Rattle.network.specs.Network.{Network, Free, net, next, Wired, storedLimit}
 use Rattle.network.specs.Sample.{Drives, Legal, Low, Answer, Empty, AtTop, BelowTop, Outcome, accepted, driveRefused, railRefused, storedRefused, DrivesLegal, Gives}
-use Rattle.network.specs.Search.{Settling, lowered}
+use Rattle.network.specs.Search.{Settling, lowered, height}
 use Rattle.network.proofs.Nodes.{find}
 use Rattle.network.proofs.Hold.{top-start}
 use Rattle.network.proofs.Lowering.{lowered-here, lowered-under, lowered-none}
 use Rattle.network.proofs.Settle.{settling-start, settled-answer, none-empty, step-settling, step-none}
-use Rattle.network.proofs.Measures.{bottom, height, height-falls}
+use Rattle.network.proofs.Measures.{height-falls}
 
 -- the drives, and every free node at the top
 topOf : Network → (ℕ → ℤ) → ℕ → ℤ

@@ -6,7 +6,8 @@ use native.Mathlib.Omega.{arith}
 use lib.IntN.{ℤ, pos}
 use lib.Signed.{_≤ℤ_}
 use Rattle.units.specs.Voltage.{voltageLimit}
-use Rattle.units.proofs.Integers.{up, dn, signs, pos-law, abs-law, eq-out, Rise, Reach, decideN}
+use Rattle.units.specs.Integer.{up, dn}
+use Rattle.units.proofs.Integers.{signs, pos-law, abs-law, eq-out, Rise, Reach, decideN}
 use Rattle.network.specs.Network.{Network, Fixed, Free, net, held, steepest, Wired}
 use Rattle.network.specs.Sample.{Drives, Above}
 use Rattle.network.proofs.Nodes.{by-node}

@@ -7,17 +7,13 @@ use native.Mathlib.Omega.{arith}
 use lib.ListN.{length, set}
 use lib.IntN.{ℤ, pos, negℤ, _+ℤ_, _-ℤ_}
 use lib.Signed.{_≤ℤ_, _<ℤ_}
-use Rattle.units.specs.Integer.{total}
-use Rattle.units.specs.Voltage.{voltageLimit}
-use Rattle.units.proofs.Integers.{up, dn, signs, add-law, sub-law, neg-law, pos-law, one-sided, parts, decideN}
+use Rattle.units.specs.Integer.{up, dn, total}
+use Rattle.units.specs.Voltage.{voltageLimit, bottom}
+use Rattle.units.proofs.Integers.{signs, add-law, sub-law, neg-law, pos-law, one-sided, parts, decideN}
 use Rattle.network.specs.Network.{Network, reading}
 use Rattle.network.specs.Sample.{Under}
-use Rattle.network.specs.Search.{lowered}
+use Rattle.network.specs.Search.{lowered, height, depth}
 use Rattle.network.proofs.Lowering.{lowered-here, lowered-under, store-lowers}
-
--- the bottom of the range
-abbrev pub bottom : ℤ
-bottom = negℤ (pos voltageLimit)
 
 total-le : (f g : ℕ → ℕ) (n : ℕ) → ((j : ℕ) → j < n → g j ≤ f j) → total g n ≤ total f n
 unfolding total
@@ -35,9 +31,6 @@ up-less : (a b : ℤ) → up a + dn b < up b + dn a → 0 < up b → up a < up b
 up-less a b h k = ⊎-elim (λ (z : dn a ≡ 0). omega arith) (λ (z : up a ≡ 0). omega arith) (one-sided a)
 
 -- ---- going down: how high the nodes stand above the bottom
-
-unfoldable pub height : Network → (ℕ → ℤ) → ℕ
-height N v = total (λ (j : ℕ). up (v j +ℤ pos voltageLimit)) (suc (N .nodes))
 
 -- u is nowhere higher than v, and at node i, which was above the bottom, lower
 pub height-falls : (N : Network) (u v : ℕ → ℤ) (i : ℕ) → i ≤ N .nodes → Under N u v → u i <ℤ v i → bottom <ℤ v i → height N u < height N v
@@ -63,9 +56,6 @@ height-falls-list N l i t short there some over =
     (height-falls N u (reading l) i there (λ j h. lowered-under (reading l) i t j) (omega (signs, lowered-here (reading l) i t, sub-law (reading l i) (pos t), pos-law t)) over)
 
 -- ---- climbing: how far the nodes stand below the top
-
-unfoldable pub depth : Network → (ℕ → ℤ) → ℕ
-depth N v = total (λ (j : ℕ). up (pos voltageLimit -ℤ v j)) (suc (N .nodes))
 
 -- u is nowhere lower than v, and at node i, where it is within the range, higher
 pub depth-falls : (N : Network) (u v : ℕ → ℤ) (i : ℕ) → i ≤ N .nodes → Under N v u → v i <ℤ u i → u i ≤ℤ pos voltageLimit → depth N u < depth N v

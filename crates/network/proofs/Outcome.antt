@@ -40,22 +40,22 @@ module _ (N : Network) (x d : ℕ → ℤ) (wired : Wired N) where
   pub one-outcome : (o₁ o₂ : Outcome) → Gives N x d o₁ → Gives N x d o₂ → Same N x o₁ o₂
   one-outcome (accepted v y) (accepted u z) a b =
       let same = one-answer N x d v u (a .answer) (b .answer) in
-      record { number = refl; voltages = same; stored = λ j l. a .stored j l ∙ same-next N x v u wired same j l ∙ sym (b .stored j l) }
+      record { answer = refl; voltages = same; stored = λ j l. a .stored j l ∙ same-next N x v u wired same j l ∙ sym (b .stored j l) }
   one-outcome (accepted v y) driveRefused a b = absurd (no-drive (a .drives) b)
   one-outcome (accepted v y) railRefused a b = absurd (not-rail N x d v (a .answer) (a .below) (b .rail))
   one-outcome (accepted v y) storedRefused a b = absurd (no-stored v y a b)
   one-outcome driveRefused (accepted u z) a b = absurd (no-drive (b .drives) a)
-  one-outcome driveRefused driveRefused a b = record { number = refl; voltages = λ j l. refl; stored = λ j l. refl }
+  one-outcome driveRefused driveRefused a b = record { answer = refl; voltages = λ j l. refl; stored = λ j l. refl }
   one-outcome driveRefused railRefused a b = absurd (no-drive (b .drives) a)
   one-outcome driveRefused storedRefused a b = absurd (no-drive (b .drives) a)
   one-outcome railRefused (accepted u z) a b = absurd (not-rail N x d u (b .answer) (b .below) (a .rail))
   one-outcome railRefused driveRefused a b = absurd (no-drive (a .drives) b)
-  one-outcome railRefused railRefused a b = record { number = refl; voltages = λ j l. refl; stored = λ j l. refl }
+  one-outcome railRefused railRefused a b = record { answer = refl; voltages = λ j l. refl; stored = λ j l. refl }
   one-outcome railRefused storedRefused a b = absurd (not-rail N x d (b .voltages) (b .answer) (b .below) (a .rail))
   one-outcome storedRefused (accepted u z) a b = absurd (no-stored u z b a)
   one-outcome storedRefused driveRefused a b = absurd (no-drive (a .drives) b)
   one-outcome storedRefused railRefused a b = absurd (not-rail N x d (a .voltages) (a .answer) (a .below) (b .rail))
-  one-outcome storedRefused storedRefused a b = record { number = refl; voltages = λ j l. refl; stored = λ j l. refl }
+  one-outcome storedRefused storedRefused a b = record { answer = refl; voltages = λ j l. refl; stored = λ j l. refl }
 
 -- ---- stored currents and drives that agree where they are read have the same outcomes: samples can be joined one to the next
 

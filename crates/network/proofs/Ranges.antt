@@ -10,18 +10,14 @@ use lib.Dec.{eqb, leb}
 use lib.ListN.{length, getD}
 use lib.IntN.{ℤ, pos, negℤ, natAbs, _+ℤ_, _-ℤ_, _*ℤ_}
 use lib.Signed.{_≤ℤ_, _<ℤ_}
-use Rattle.units.specs.Integer.{lower, higher, sum}
+use Rattle.units.specs.Integer.{up, dn, lower, higher, sum}
 use Rattle.units.specs.Voltage.{voltageLimit, Within, InRange}
-use Rattle.units.proofs.Integers.{up, dn, signs, sub-law, pos-law, abs-law, decide, ordered, crossed, scale-one}
+use Rattle.units.proofs.Integers.{signs, sub-law, pos-law, abs-law, decide, ordered, crossed, scale-one}
 use Rattle.units.proofs.Sizes.{abs-within, abs-add, abs-sub, abs-neg, abs-mul, sum-abs, total-small}
-use Rattle.network.specs.Network.{Law, conductance, curve, Store, nothing, capacitor, inductor, Network, reading, ramp, current, pick, leaving, net, greatest, conductanceOf, steepestOf, heldBy, steepestBy, held, steepest, advance, next, branchLimit, conductanceLimit, breakpointLimit, storedLimit, leakLimit, CurveInLimits, LawInLimits, InLimits}
+use Rattle.network.specs.Network.{Law, conductance, curve, Store, nothing, capacitor, inductor, Network, reading, ramp, current, pick, leaving, net, greatest, conductanceOf, steepestOf, heldBy, steepestBy, held, steepest, advance, next, branchLimit, conductanceLimit, breakpointLimit, storedLimit, leakLimit, currentBound, CurveInLimits, LawInLimits, InLimits}
 use Rattle.network.specs.Sample.{Legal, DrivesLegal}
 use Rattle.network.proofs.Nodes.{by-node}
 use Rattle.network.proofs.Compare.{current-steep}
-
--- a current stays within this: 3 × 2^56
-abbrev pub currentBound : ℕ
-currentBound = conductanceLimit * breakpointLimit + storedLimit
 
 -- ---- one product, one curve
 
@@ -38,25 +34,6 @@ lower-within : (L : ℕ) (a b : ℤ) → Within L a → Within L b → Within L 
 lower-within L a b ha hb = ⊎-elim
     (λ (h : a ≤ℤ b). (rw (ordered a b h .0) ha, rw (ordered a b h .1) hb))
     (λ (h : b <ℤ a). (rw (crossed a b (omega signs) .0) hb, rw (crossed a b (omega signs) .1) ha)) (decide a b)
-
--- a walk along a curve from the left adds up to at most 2^56 a stretch
-walk-small : (ss : List ℕ) (bs : List ℤ) (v : ℤ) → ((j : ℕ) → getD ss j 0 ≤ conductanceLimit) → ((j : ℕ) → Within breakpointLimit (reading bs j)) → Within breakpointLimit v → natAbs (ramp 1 ss bs v) ≤ length ss * 2 ^ 56
-unfolding ramp
-walk-small [] bs v slope breakpoint near = omega arith
-walk-small (s ∷ ss) [] v slope breakpoint near = omega (arith, product-fits s v (slope 0) near)
-walk-small (s ∷ ss) (b ∷ bs) v slope breakpoint near =
-    let c = pos 1 *ℤ b in
-    let k : Within breakpointLimit c = rw (scale-one b) (breakpoint 0) in
-    let both = lower-within breakpointLimit v c near k in
-    omega (
-      arith,
-      abs-add (pos s *ℤ lower v c) (ramp 1 ss bs (higher v c)),
-      product-fits s (lower v c) (slope 0) (both .0),
-      walk-small ss bs (higher v c) (λ j. slope (suc j)) (λ j. breakpoint (suc j)) (both .1),
-    )
-
-pub walk-fits : (ss : List ℕ) (bs : List ℤ) (v : ℤ) → CurveInLimits ss bs → Within breakpointLimit v → natAbs (ramp 1 ss bs v) ≤ 17 * 2 ^ 56
-walk-fits ss bs v limits near = omega (arith, walk-small ss bs v (limits .slope) (limits .breakpoint) near)
 
 greatest-small : (ss : List ℕ) (L : ℕ) → ((j : ℕ) → getD ss j 0 ≤ L) → greatest ss ≤ L
 unfolding greatest
@@ -91,12 +68,6 @@ current-small (conductance g) x v h near kept = omega (arith, product-fits g v (
 current-small (curve ss bs) x v h near kept =
     let m : greatest ss * natAbs v ≤ conductanceLimit * breakpointLimit = mul-le-mul (greatest-small ss conductanceLimit (h .slope)) near in
     omega (arith, curve-small 1 ss bs x v)
-
-advance-small : (s : Store) (g : ℕ) (x v : ℤ) → g ≤ conductanceLimit → Within breakpointLimit v → Within storedLimit x → natAbs (advance s g x v) ≤ 2 ^ 58
-unfolding advance
-advance-small nothing g x v small near kept = omega arith
-advance-small capacitor g x v small near kept = omega (arith, abs-sub (pos (2 * g) *ℤ v) x, abs-mul (pos (2 * g)) v, abs-mul (pos g) v, product-fits g v small near)
-advance-small inductor g x v small near kept = omega (arith, abs-sub x (pos (2 * g) *ℤ v), abs-mul (pos (2 * g)) v, abs-mul (pos g) v, product-fits g v small near)
 
 -- ---- a network within limits
 
@@ -176,14 +147,3 @@ module _ (N : Network) (limits : InLimits N) where
         let f : ℕ → ℤ = λ m. leaving 1 (N .branch m) (x m) w i in
         let m : N .leak * natAbs (w i) ≤ leakLimit * voltageLimit = mul-le-mul (limits .leak-small) (range i there) in
         omega (arith, abs-add (pos (N .leak) *ℤ w i) (sum f j), abs-mul (pos (N .leak)) (w i), sum-abs f currentBound j (λ n k. leaving-fits i n (omega arith)))
-
-    pub partial-sum-fits : (i j : ℕ) → i ≤ N .nodes → j ≤ N .count → natAbs (pos (N .leak) *ℤ w i +ℤ sum (λ (m : ℕ). leaving 1 (N .branch m) (x m) w i) j) < 2 ^ 63
-    partial-sum-fits i j there l = omega (arith, partial-sum-small i j there l, limits .few-branches)
-
-    pub net-fits : (i : ℕ) → i ≤ N .nodes → natAbs (net 1 N x w i) < 2 ^ 63
-    unfolding net
-    net-fits i there = partial-sum-fits i (N .count) there (le-refl (N .count))
-
-    pub next-fits : (j : ℕ) → j < N .count → natAbs (next N x w j) ≤ 2 ^ 58
-    unfolding next
-    next-fits j l = advance-small (N .branch j .store) (conductanceOf (N .branch j .law)) (x j) (across j) (conductance-of-small (N .branch j .law) (limits .laws j l)) (across-fits j l) (kept j l)

@@ -8,16 +8,15 @@ use native.Mathlib.Omega.{arith}
 use lib.ListN.{length, set}
 use lib.IntN.{ℤ, pos, natAbs, _-ℤ_}
 use lib.Signed.{_≤ℤ_, _<ℤ_}
-use Rattle.units.specs.Integer.{roundedUp}
-use Rattle.units.specs.Voltage.{voltageLimit}
-use Rattle.units.proofs.Integers.{up, dn, signs, neg-law, pos-law, abs-law, one-sided}
+use Rattle.units.specs.Integer.{up, dn, roundedUp}
+use Rattle.units.specs.Voltage.{voltageLimit, bottom}
+use Rattle.units.proofs.Integers.{signs, neg-law, pos-law, abs-law, one-sided}
 use Rattle.units.proofs.Sizes.{abs-within, rounded-up-law}
 use Rattle.network.specs.Network.{Network, Fixed, Free, reading, net, steepest, Wired}
 use Rattle.network.specs.Sample.{Drives, Legal, Under, Above, Answer, Empty}
 use Rattle.network.specs.Search.{Covers, Settling, Settled, NoneUnder, lowered, Sank, still, sunk}
 use Rattle.network.proofs.Hold.{keep-drives, leak-steepest}
 use Rattle.network.proofs.Lowering.{lowered-law, lowered-here, lowered-under, lowered-further, store-lowers}
-use Rattle.network.proofs.Measures.{bottom}
 use Rattle.network.proofs.Descend.{descend, sank-under, sank-drives, lowered-drives, allowed}
 
 -- ---- beginning and end
@@ -73,10 +72,6 @@ module _ (N : Network) (x d z v : ℕ → ℤ) (s : Settling N x d z v) where
     pub step-none : (v i -ℤ pos (suc r)) <ℤ bottom → NoneUnder N x d z
     step-none out = out-of-range N x d z (lowered v i (suc r)) i step-covers free (rw (lowered-here v i (suc r)) out)
 
-    -- the node may also be kept where it was evaluated, to step on from there
-    pub keep-settling : bottom ≤ℤ (v i -ℤ pos r) → Settling N x d z (lowered v i r)
-    keep-settling over = lowered-settling i free r (λ w legal low under j l. omega (signs, step-covers w legal low under j l, lowered-further v i r j)) over
-
   -- ---- Leap: s₁ is v lowered at some free nodes, e sank from it, and is lower than s₁ wherever s₁ is lower than v
   module _ (s₁ e : ℕ → ℤ) (wired : Wired N) (same : (j : ℕ) → Fixed N j → s₁ j ≡ v j) (lower : Under N s₁ v) (sank : Sank N x s₁ e) (falls : (j : ℕ) → j ≤ N .nodes → (v j ≤ℤ s₁ j) ⊎ (e j <ℤ s₁ j)) where
     leap-drives : Drives 1 N d s₁
@@ -87,9 +82,6 @@ module _ (N : Network) (x d z v : ℕ → ℤ) (s : Settling N x d z v) where
 
     pub leap-settling : ((i : ℕ) → Free N i → bottom ≤ℤ e i) → Settling N x d z e
     leap-settling = settling-at e leap-covers (sank-drives d wired sank leap-drives) (λ j l. omega (signs, sank-under sank j l, lower j l))
-
-    pub leap-none : (i : ℕ) → Free N i → e i <ℤ bottom → NoneUnder N x d z
-    leap-none i free out = out-of-range N x d z e i leap-covers free out
 
 -- ---- Step by the net current over the steepest sum, rounded up: it never passes the answer
 
@@ -124,27 +116,10 @@ module _ (N : Network) (x d z : ℕ → ℤ) (l : List ℤ) (i : ℕ) (wired : W
   abbrev down : ℕ → List ℤ
   down t = set l i (reading l i -ℤ pos t)
 
-  from-store : (P : (ℕ → ℤ) → Type 0) (t : ℕ) → P (reading (down t)) → P (lowered (reading l) i t)
-  from-store P t h = subst P (store-lowers l i t short) h
-
   to-store : (P : (ℕ → ℤ) → Type 0) (t : ℕ) → P (lowered (reading l) i t) → P (reading (down t))
   to-store P t h = subst P (sym (store-lowers l i t short)) h
 
-  -- by r + 1, for any r at which one more evaluation shows the net current above zero
-  module _ (r : ℕ) (high : pos 0 <ℤ net 1 N x (reading (down r)) i) where
-    still-high : pos 0 <ℤ net 1 N x (lowered (reading l) i r) i
-    still-high = from-store (λ (u : ℕ → ℤ). pos 0 <ℤ net 1 N x u i) r high
-
-    pub step-settling-list : bottom ≤ℤ (reading l i -ℤ pos (suc r)) → Settling N x d z (reading (down (suc r)))
-    step-settling-list over = to-store (λ (u : ℕ → ℤ). Settling N x d z u) (suc r) (step-settling N x d z (reading l) s i r wired free still-high over)
-
-    pub step-none-list : (reading l i -ℤ pos (suc r)) <ℤ bottom → NoneUnder N x d z
-    step-none-list out = step-none N x d z (reading l) s i r wired free still-high out
-
-    pub keep-settling-list : bottom ≤ℤ (reading l i -ℤ pos r) → Settling N x d z (reading (down r))
-    keep-settling-list over = to-store (λ (u : ℕ → ℤ). Settling N x d z u) r (keep-settling N x d z (reading l) s i r wired free still-high over)
-
-  -- and by what the steepest sum allows
+  -- by what the steepest sum allows
   module _ (leaks : 1 ≤ N .leak) (high : pos 0 <ℤ net 1 N x (reading l) i) where
     pub ceil-settling-list : bottom ≤ℤ (reading l i -ℤ pos (stepOf N x (reading l) i)) → Settling N x d z (reading (down (stepOf N x (reading l) i)))
     ceil-settling-list over =

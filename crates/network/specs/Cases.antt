@@ -6,8 +6,9 @@ use mathlib.Core.List.{List, [], _∷_, _++_}
 use Prim.Native.Nat.{ℕ, suc}
 use lib.ListN.{length, getD}
 use lib.IntN.{ℤ, pos, negℤ}
+use Rattle.units.specs.Number.{numberOf}
 use Rattle.network.specs.Network.{Law, conductance, curve, Store, nothing, capacitor, Branch, noBranch, Network, reading}
-use Rattle.network.specs.Sample.{Outcome, accepted, railRefused, numberOf, Gives}
+use Rattle.network.specs.Sample.{Outcome, accepted, railRefused, answerOf, Gives}
 use Rattle.network.specs.Bound.{LeastEnough}
 
 pub record Circuit : Type 0 where
@@ -37,7 +38,7 @@ pub data Case : Type 0 where
 
 -- what a case says
 abbrev pub Holds : Case → Type 0
-Holds (sample c stored drives n r) = Gives (networkOf c) (reading stored) (reading drives) (outcomeOf drives r) × (numberOf (outcomeOf drives r) ≡ n)
+Holds (sample c stored drives n r) = Gives (networkOf c) (reading stored) (reading drives) (outcomeOf drives r) × (numberOf (answerOf (outcomeOf drives r)) ≡ n)
 Holds (bound c B) = LeastEnough (networkOf c) 0 B
 
 abbrev pub AllHold : List Case → Type 0

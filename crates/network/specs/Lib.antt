@@ -1,4 +1,5 @@
 pub mod Network
+pub mod Kind
 pub mod Sample
 pub mod Bound
 pub mod Search

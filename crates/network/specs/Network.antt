@@ -8,6 +8,7 @@ use Prim.Native.Nat.{ℕ, suc, _+_, _*_, _^_, _≤_, _<_, max}
 use lib.Dec.{eqb, leb}
 use lib.ListN.{length, getD}
 use lib.IntN.{ℤ, pos, negℤ, _+ℤ_, _-ℤ_, _*ℤ_}
+use lib.Signed.{_<ℤ_}
 use Rattle.units.specs.Integer.{lower, higher, sum, total}
 use Rattle.units.specs.Voltage.{Within}
 
@@ -157,11 +158,19 @@ storedLimit = 2 ^ 57
 abbrev pub leakLimit : ℕ
 leakLimit = 10
 
+-- what no current passes then: 3 × 2^56
+abbrev pub currentBound : ℕ
+currentBound = conductanceLimit * breakpointLimit + storedLimit
+
 -- every branch ends at nodes that are there
 pub record Wired (N : Network) : Type 0 where
   pub driven-there : N .driven ≤ N .nodes
   pub p-there : (j : ℕ) → j < N .count → N .branch j .p ≤ N .nodes
   pub q-there : (j : ℕ) → j < N .count → N .branch j .q ≤ N .nodes
+
+-- breakpoints rise strictly
+abbrev pub Rising : List ℤ → Type 0
+Rising breakpoints = (j : ℕ) → suc j < length breakpoints → reading breakpoints j <ℤ reading breakpoints (suc j)
 
 -- a curve within the limits, with one slope more than it has breakpoints
 pub record CurveInLimits (slopes : List ℕ) (breakpoints : List ℤ) : Type 0 where
@@ -170,6 +179,7 @@ pub record CurveInLimits (slopes : List ℕ) (breakpoints : List ℤ) : Type 0 w
   pub stretches : length slopes ≡ suc (length breakpoints)
   pub slope : (j : ℕ) → getD slopes j 0 ≤ conductanceLimit
   pub breakpoint : (j : ℕ) → Within breakpointLimit (reading breakpoints j)
+  pub rising : Rising breakpoints
 
 abbrev pub LawInLimits : Law → Type 0
 LawInLimits (conductance g) = (1 ≤ g) × (g ≤ conductanceLimit)

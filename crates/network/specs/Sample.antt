@@ -6,6 +6,8 @@ use Prim.Native.Nat.{ℕ, suc, _≤_, _<_}
 use lib.IntN.{ℤ, pos, natAbs, _*ℤ_}
 use lib.Signed.{_≤ℤ_, _<ℤ_}
 use Rattle.units.specs.Voltage.{voltageLimit, driveLimit, Within, InRange, InDrive}
+use Rattle.units.specs.declared.number.Number.{Number}
+use Rattle.units.specs.declared.number.Number.the-variants as number
 use Rattle.network.specs.Network.{Network, Free, net, next, storedLimit}
 
 -- ground at 0 and the driven nodes at their drives, on a grid of k-ths
@@ -60,12 +62,12 @@ pub data Outcome : Type 0 where
   accepted : (ℕ → ℤ) → (ℕ → ℤ) → Outcome
   driveRefused railRefused storedRefused : Outcome
 
--- document 01's number
-abbrev pub numberOf : Outcome → ℕ
-numberOf (accepted v y) = 0
-numberOf driveRefused = 9
-numberOf railRefused = 10
-numberOf storedRefused = 11
+-- what it is answered with
+abbrev pub answerOf : Outcome → Number
+answerOf (accepted v y) = number.Done
+answerOf driveRefused = number.Drive
+answerOf railRefused = number.Rail
+answerOf storedRefused = number.Stored
 
 -- the voltages, none of which a refused sample has (0 stands there), and the stored currents afterwards, which a refused sample leaves
 abbrev pub voltagesOf : Outcome → ℕ → ℤ
@@ -122,6 +124,6 @@ Gives N x d storedRefused = StoredRefused N x d
 
 -- two outcomes of a sample that a host cannot tell apart
 pub record Same (N : Network) (x : ℕ → ℤ) (o₁ o₂ : Outcome) : Type 0 where
-  pub number : numberOf o₁ ≡ numberOf o₂
+  pub answer : answerOf o₁ ≡ answerOf o₂
   pub voltages : (j : ℕ) → j ≤ N .nodes → voltagesOf o₁ j ≡ voltagesOf o₂ j
   pub stored : (j : ℕ) → j < N .count → storedOf x o₁ j ≡ storedOf x o₂ j

@@ -6,6 +6,7 @@ use Prim.Native.Nat.{ℕ, suc, _≤_}
 use lib.Dec.{eqb, leb, ltb}
 use lib.IntN.{ℤ, pos, _+ℤ_, _-ℤ_}
 use lib.Signed.{_<ℤ_, ltZ}
+use Rattle.units.specs.Integer.{up, total}
 use Rattle.units.specs.Voltage.{voltageLimit}
 use Rattle.network.specs.Network.{Network, Free, net}
 use Rattle.network.specs.Sample.{Legal, Low, Under}
@@ -56,3 +57,11 @@ pub record Through (N : Network) (x z : ℕ → ℤ) : Type 0 where
   pub place : ℕ → ℤ
   pub visit : Visit N x z place
   pub back : (j : ℕ) → j ≤ N .nodes → place j ≡ z j
+
+-- ---- what falls: how high the nodes stand above the bottom while a search goes down, how far below the top while it climbs
+
+unfoldable pub height : Network → (ℕ → ℤ) → ℕ
+height N v = total (λ (j : ℕ). up (v j +ℤ pos voltageLimit)) (suc (N .nodes))
+
+unfoldable pub depth : Network → (ℕ → ℤ) → ℕ
+depth N v = total (λ (j : ℕ). up (pos voltageLimit -ℤ v j)) (suc (N .nodes))

@@ -1,1 +1,2 @@
-// What a circuit does in one sample, as definitions and laws: this crate has no code.
+// What a circuit does in one sample, as definitions and laws. Its only code names the kinds of element.
+pub mod kind;

@@ -9,9 +9,10 @@ use lib.IntN.{ℤ}
 use lib.ListN.{length, take, drop, length-append}
 use lib.Seq.{take-at, drop-at, take-length}
 use borrow.Author.Tests.{eqb-true, eqb-false}
-use Rattle.image.specs.Format.{readingOf}
+use Rattle.image.specs.Format.{openingOf}
 use Rattle.block.proofs.OneOutcome.{plays-once}
 use Rattle.console.proofs.OneText.{line-once}
+use Rattle.block.specs.declared.call.State.{State}
 use Rattle.rendering.specs.Rendering.{blockSamples, noOutputs, drivenOf, setsIn, Lines, none, more, Told, Whole, start, block, Renders}
 
 pub lines-once : {f : ℕ → ℤ} {n : ℕ} {a b : List ℕ} → Lines f n a → Lines f n b → a ≡ b
@@ -19,20 +20,20 @@ lines-once none none = refl
 lines-once (more l p) (more m q) = rw (lines-once l m, line-once p q)
 
 -- what comes of one block, put beside what else might
-pub record SameTold (n₁ n₂ c₁ c₂ : ℕ) (y₁ y₂ : List ℤ) (t₁ t₂ : List ℕ) : Type 0 where
+pub record SameTold (n₁ n₂ c₁ c₂ : ℕ) (y₁ y₂ : State) (t₁ t₂ : List ℕ) : Type 0 where
   pub number : n₁ ≡ n₂
   pub count : c₁ ≡ c₂
-  pub stored : y₁ ≡ y₂
+  pub state : y₁ ≡ y₂
   pub text : t₁ ≡ t₂
 
-pub told-once : {image drives : List ℕ} {x : List ℤ} {n n₁ n₂ c₁ c₂ : ℕ} {y₁ y₂ : List ℤ} {t₁ t₂ : List ℕ} → Told image x n drives n₁ c₁ y₁ t₁ → Told image x n drives n₂ c₂ y₂ t₂ → SameTold n₁ n₂ c₁ c₂ y₁ y₂ t₁ t₂
+pub told-once : {image drives : List ℕ} {x : State} {n n₁ n₂ c₁ c₂ : ℕ} {y₁ y₂ : State} {t₁ t₂ : List ℕ} → Told image x n drives n₁ c₁ y₁ t₁ → Told image x n drives n₂ c₂ y₂ t₂ → SameTold n₁ n₂ c₁ c₂ y₁ y₂ t₁ t₂
 told-once {image} {drives} {x} {n} p q =
     let s = plays-once image x n drives noOutputs (p .plays) (q .plays) in
     record {
       number = s .number;
       count = s .count;
-      stored = s .stored;
-      text = lines-once (p .lines) (rw (sym (s .written), sym (s .count)) at (q .lines));
+      state = s .state;
+      text = lines-once (p .lines) (rw (sym (s .bytes), sym (s .count)) at (q .lines));
     }
 
 -- two cuts of one list at the same place
@@ -42,9 +43,9 @@ cut-first a b c d e l = sym (take-at a b (length c) l) ∙ ap (take (length c)) 
 cut-rest : (a b c d : List ℕ) → a ++ b ≡ c ++ d → length a ≡ length c → b ≡ d
 cut-rest a b c d e l = sym (drop-at a b (length c) l) ∙ ap (drop (length c)) e ∙ drop-at c d (length c) refl
 
-record SameWhole (r₁ r₂ : List ℕ) (x₁ x₂ : List ℤ) (t₁ t₂ : List ℕ) : Type 0 where
+record SameWhole (r₁ r₂ : List ℕ) (x₁ x₂ : State) (t₁ t₂ : List ℕ) : Type 0 where
   read : r₁ ≡ r₂
-  stored : x₁ ≡ x₂
+  state : x₁ ≡ x₂
   text : t₁ ≡ t₂
 
 -- whole blocks only
@@ -54,8 +55,8 @@ record Blocks (total : ℕ) : Type 0 where
 
 module _ {image : List ℕ} where
   -- as many whole blocks of the same drives
-  whole-once : {r₁ r₂ t₁ t₂ : List ℕ} {n₁ n₂ : ℕ} {x₁ x₂ : List ℤ} (s₁ s₂ : List ℕ) → Whole image r₁ n₁ x₁ t₁ → Whole image r₂ n₂ x₂ t₂ → n₁ ≡ n₂ → r₁ ++ s₁ ≡ r₂ ++ s₂ → SameWhole r₁ r₂ x₁ x₂ t₁ t₂
-  whole-once s₁ s₂ start start e d = record { read = refl; stored = refl; text = refl }
+  whole-once : {r₁ r₂ t₁ t₂ : List ℕ} {n₁ n₂ : ℕ} {x₁ x₂ : State} (s₁ s₂ : List ℕ) → Whole image r₁ n₁ x₁ t₁ → Whole image r₂ n₂ x₂ t₂ → n₁ ≡ n₂ → r₁ ++ s₁ ≡ r₂ ++ s₂ → SameWhole r₁ r₂ x₁ x₂ t₁ t₂
+  whole-once s₁ s₂ start start e d = record { read = refl; state = refl; text = refl }
   whole-once s₁ s₂ start (block w l p) e d = absurd (omega (arith, e))
   whole-once s₁ s₂ (block w l p) start e d = absurd (omega (arith, e))
   whole-once s₁ s₂ (block {read = a} {drives = b} w l p) (block {read = c} {drives = f} v m q) e d =
@@ -63,16 +64,16 @@ module _ {image : List ℕ} where
       let h = whole-once (b ++ s₁) (f ++ s₂) w v (omega (arith, e)) rest in
       let tail : b ++ s₁ ≡ f ++ s₂ = cut-rest a (b ++ s₁) c (f ++ s₂) rest (ap length (h .read)) in
       let same : b ≡ f = cut-first b s₁ f s₂ tail (l ∙ sym m) in
-      let t = told-once p (rw (sym same, sym (h .stored)) at q) in
-      record { read = rw (h .read, same); stored = t .stored; text = rw (h .text, t .text) }
+      let t = told-once p (rw (sym same, sym (h .state)) at q) in
+      record { read = rw (h .read, same); state = t .state; text = rw (h .text, t .text) }
 
-  whole-blocks : {r t : List ℕ} {n : ℕ} {x : List ℤ} → Whole image r n x t → Blocks n
+  whole-blocks : {r t : List ℕ} {n : ℕ} {x : State} → Whole image r n x t → Blocks n
   whole-blocks start = record { many = 0; is = refl }
   whole-blocks (block w l p) = let b = whole-blocks w in record { many = suc (b .many); is = omega (arith, b .is) }
 
   module _ {drives text : List ℕ} {number count : ℕ} (a : Renders image drives number count text) where
     -- no whole block goes past the last
-    no-longer : {r t : List ℕ} {n : ℕ} {x : List ℤ} (s : List ℕ) → Whole image r n x t → drives ≡ r ++ s → n ≤ a .total
+    no-longer : {r t : List ℕ} {n : ℕ} {x : State} (s : List ℕ) → Whole image r n x t → drives ≡ r ++ s → n ≤ a .total
     no-longer s start e = omega arith
     no-longer s (block {read = r} {drives = b} {total = n} w l p) e = by (eqb n (a .total)) refl (no-longer (b ++ s) w (e ∙ append-assoc r b s))
       where
@@ -89,7 +90,7 @@ module _ {image : List ℕ} where
             let rest : a .rest ≡ b ++ s = cut-rest (a .read) (a .rest) r (b ++ s) cut (ap length (h .read)) in
             let long : length (a .rest) ≡ length b = omega (arith, ap length rest, length-append b s, l, a .room) in
             let none : b ≡ a .rest = sym (take-at b s (length b) refl) ∙ ap (take (length b)) (sym rest) ∙ (rw (sym long) (take-length (a .rest))) in
-            let t = told-once (a .last) (rw (none, sym (h .stored)) at p) in
+            let t = told-once (a .last) (rw (none, sym (h .state)) at p) in
             absurd (omega (arith, t .count, a .short))
 
   pub renders-once : {drives t₁ t₂ : List ℕ} {n₁ n₂ c₁ c₂ : ℕ} → Renders image drives n₁ c₁ t₁ → Renders image drives n₂ c₂ t₂ → (n₁ ≡ n₂) × (c₁ ≡ c₂) × (t₁ ≡ t₂)
@@ -98,5 +99,5 @@ module _ {image : List ℕ} where
       let cut : a .read ++ a .rest ≡ b .read ++ b .rest = sym (a .all-read) ∙ b .all-read in
       let h = whole-once (a .rest) (b .rest) (a .whole) (b .whole) total cut in
       let rest : a .rest ≡ b .rest = cut-rest (a .read) (a .rest) (b .read) (b .rest) cut (ap length (h .read)) in
-      let t = told-once (a .last) (rw (sym rest, sym (h .stored)) at (b .last)) in
+      let t = told-once (a .last) (rw (sym rest, sym (h .state)) at (b .last)) in
       (t .number, omega (arith, a .counted, b .counted, t .count), a .written ∙ rw (h .text, t .text) (sym (b .written)))

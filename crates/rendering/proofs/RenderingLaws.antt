@@ -10,42 +10,54 @@ use lib.ListN.{length, take, length-take}
 use lib.Seq.{take-append-le}
 use borrow.Author.Tests.{ne-eqb}
 use Rattle.io.specs.Counts.{Counts}
-use Rattle.console.specs.Text.{Decimal, lineEnd, Line, Then, Adds}
-use Rattle.image.specs.Format.{Reading, readingOf, partsOf}
-use Rattle.image.specs.Format as Format
-use Rattle.image.specs.Opened.{circuitIn, noCircuit, circuitOf, Read}
-use Rattle.image.specs.Sound.{Sound}
+use Rattle.console.specs.Text.{Decimal, lineEnd, Line, Then, Adds, refusedWord}
+use Rattle.image.specs.Format.{Opening, openingOf, opened, refused}
+use Rattle.image.specs.Opened.{partsIn, Read}
+use Rattle.image.specs.Parts.{noParts}
+use Rattle.image.specs.declared.parts.Parts.{Parts}
 use Rattle.image.specs.declared.reader.Opened.{Opened}
-use Rattle.image.proofs.Accepted.{accepted-says, sound}
-use Rattle.block.specs.Block.{Plays, image-refused, state-refused, lengths-refused, sample-refused, done}
+use Rattle.image.proofs.Opening.{opened-sound}
+use Rattle.block.specs.Block.{PlaysOn, state-refused, lengths-refused, sample-refused, done, Plays, image-refused, conductance-refused, plays-on}
 use Rattle.block.proofs.SampleLaws.{run-length}
-use Rattle.block.proofs.OneOutcome.{accepted-fits}
-use Rattle.rendering.specs.Rendering.{blockSamples, drivenOf, setsIn, Lines, none, more, Told, Turned, Whole, start, block, freshState, Rendered, ended, endless, refusedWord, afterWord, Closing}
+use Rattle.block.specs.declared.call.State.{State}
+use Rattle.rendering.specs.Rendering.{blockSamples, drivenOf, setsIn, Lines, none, more, Told, Turned, Whole, start, block, freshState, Rendered, ended, endless, afterWord, Closing}
 
-module _ {image : List ℕ} {x : List ℤ} {n : ℕ} {drives outputs : List ℕ} where
-  -- no more samples than were asked for
-  pub plays-count : {number count : ℕ} {y : List ℤ} {o : List ℕ} → Plays image x n drives outputs number count y o → count ≤ n
+-- once the circuit stands: no more samples than were asked for, as many output bytes as there were, and if all of some are done nothing was refused
+module _ {parts : Parts} {x : State} {n : ℕ} {drives outputs : List ℕ} where
+  on-count : {number count : ℕ} {y : State} {o : List ℕ} → PlaysOn parts x n drives outputs number count y o → count ≤ n
+  on-count (state-refused l) = omega arith
+  on-count (lengths-refused l f) = omega arith
+  on-count (sample-refused b j f) = omega (arith, j)
+  on-count (done b run) = omega arith
+
+  on-length : {number count : ℕ} {y : State} {o : List ℕ} → PlaysOn parts x n drives outputs number count y o → length o ≡ length outputs
+  on-length (state-refused l) = refl
+  on-length (lengths-refused l f) = refl
+  on-length (sample-refused b j f) = run-length (f .run)
+  on-length (done b run) = run-length run
+
+  on-all : {number count : ℕ} {y : State} {o : List ℕ} → PlaysOn parts x n drives outputs number count y o → 0 < n → n ≤ count → number ≡ 0
+  on-all (state-refused l) h a = absurd (omega arith)
+  on-all (lengths-refused l f) h a = absurd (omega arith)
+  on-all (sample-refused b j f) h a = absurd (omega (arith, j))
+  on-all (done b run) h a = refl
+
+-- the same of any image
+module _ {image : List ℕ} {x : State} {n : ℕ} {drives outputs : List ℕ} where
+  pub plays-count : {number count : ℕ} {y : State} {o : List ℕ} → Plays image x n drives outputs number count y o → count ≤ n
   plays-count (image-refused e) = omega arith
-  plays-count (state-refused e l) = omega arith
-  plays-count (lengths-refused e l f) = omega arith
-  plays-count (sample-refused r e l f j run g h) = omega (arith, j)
-  plays-count (done e l f run) = omega arith
+  plays-count (conductance-refused e f) = omega arith
+  plays-count (plays-on e t p) = on-count p
 
-  -- as many output bytes as there were
-  pub plays-length : {number count : ℕ} {y : List ℤ} {o : List ℕ} → Plays image x n drives outputs number count y o → length o ≡ length outputs
+  pub plays-length : {number count : ℕ} {y : State} {o : List ℕ} → Plays image x n drives outputs number count y o → length o ≡ length outputs
   plays-length (image-refused e) = refl
-  plays-length (state-refused e l) = refl
-  plays-length (lengths-refused e l f) = refl
-  plays-length (sample-refused r e l f j run g h) = run-length run
-  plays-length (done e l f run) = run-length run
+  plays-length (conductance-refused e f) = refl
+  plays-length (plays-on e t p) = on-length p
 
-  -- all samples done, of some: nothing was refused
-  pub plays-all : {number count : ℕ} {y : List ℤ} {o : List ℕ} → Plays image x n drives outputs number count y o → 0 < n → n ≤ count → number ≡ 0
+  pub plays-all : {number count : ℕ} {y : State} {o : List ℕ} → Plays image x n drives outputs number count y o → 0 < n → n ≤ count → number ≡ 0
   plays-all (image-refused e) h a = absurd (omega arith)
-  plays-all (state-refused e l) h a = absurd (omega arith)
-  plays-all (lengths-refused e l f) h a = absurd (omega arith)
-  plays-all (sample-refused r e l f j run g s) h a = absurd (omega (arith, j))
-  plays-all (done e l f run) h a = refl
+  plays-all (conductance-refused e f) h a = absurd (omega arith)
+  plays-all (plays-on e t p) h a = on-all p h a
 
 -- one line more
 pub lines-more : {f : ℕ → ℤ} {n at r : ℕ} {a b : List ℕ} → Lines f n (take at a) → Adds (Line (f n)) 22 at a r b → Lines f (n + 1) (take r b)
@@ -82,23 +94,23 @@ sets-whole bytes (suc d) h f =
 
 -- ---- how many nodes are driven
 
-pub driven-is : {image : List ℕ} {r : Opened} → Read image r → (r .circuit .driven ≡ drivenOf (readingOf image)) × (r .circuit .driven ≤ 15)
-unfolding noCircuit circuitIn partsOf
-driven-is {image} {r} p = by (readingOf image) refl
+pub driven-is : {image : List ℕ} {r : Opened} → Read image r → (r .parts .driven ≡ drivenOf (openingOf image)) × (r .parts .driven ≤ 15)
+unfolding noParts
+driven-is {image} {r} p = by (openingOf image) refl
   where
-    by : (q : Reading) → readingOf image ≡ q → (r .circuit .driven ≡ drivenOf (readingOf image)) × (r .circuit .driven ≤ 15)
-    by (Format.refused k) e =
-        let z : r .circuit ≡ noCircuit = p .circuit ∙ ap (circuitOf image) e in
+    by : (q : Opening) → openingOf image ≡ q → (r .parts .driven ≡ drivenOf (openingOf image)) × (r .parts .driven ≤ 15)
+    by (refused k) e =
+        let z : r .parts ≡ noParts = p .parts ∙ ap partsIn e in
         (rw (z, e), rw z (omega arith))
-    by (Format.accepted parts) e =
-        let z : r .circuit ≡ circuitIn image = p .circuit ∙ ap (circuitOf image) e in
-        let s : Sound image (circuitIn image) = sound image (accepted-says image parts e) in
-        (rw (z, e, accepted-fits image parts e .is), rw z (omega (arith, s .driven-there, s .few-nodes)))
+    by (opened parts) e =
+        let z : r .parts ≡ parts = p .parts ∙ ap partsIn e in
+        let s = opened-sound image parts e .1 in
+        (rw (z, e), rw z (omega (arith, s .driven-there, s .few-nodes)))
 
 -- ---- block after block
 
 -- some drives were read and rendered, in whole blocks
-pub record Rendering (image : List ℕ) (total : ℕ) (x : List ℤ) : Type 0 where
+pub record Rendering (image : List ℕ) (total : ℕ) (x : State) : Type 0 where
   pub read : List ℕ
   pub text : List ℕ
   pub whole : Whole image read total x text
@@ -106,12 +118,12 @@ pub record Rendering (image : List ℕ) (total : ℕ) (x : List ℤ) : Type 0 wh
 pub rendering-start : (image : List ℕ) → Rendering image 0 freshState
 rendering-start image = record { read = []; text = []; whole = start }
 
-pub rendering-enough : {image : List ℕ} {total : ℕ} {x : List ℤ} → Rendering image total x → 2 ^ 62 ≤ total → Rendered image 0 total
+pub rendering-enough : {image : List ℕ} {total : ℕ} {x : State} → Rendering image total x → 2 ^ 62 ≤ total → Rendered image 0 total
 rendering-enough {x = x} r h = endless (r .read) (r .text) x (r .whole) h
 
-module _ {image : List ℕ} {total number count : ℕ} {x y : List ℤ} (before : Rendering image total x) (turn : Turned image x number count y) where
+module _ {image : List ℕ} {total number count : ℕ} {x y : State} (before : Rendering image total x) (turn : Turned image x number count y) where
   pub turn-few : count ≤ blockSamples
-  turn-few = omega (arith, plays-count (turn .told .plays), sets-few (length (turn .drives)) (drivenOf (readingOf image)) (turn .room))
+  turn-few = omega (arith, plays-count (turn .told .plays), sets-few (length (turn .drives)) (drivenOf (openingOf image)) (turn .room))
 
   -- a short block is the last
   pub rendering-last : count < blockSamples → Rendered image number (total + count)
@@ -139,7 +151,7 @@ module _ {image : List ℕ} {total number count : ℕ} {x y : List ℤ} (before 
   pub rendering-more : blockSamples ≤ count → Rendering image (total + count) y
   rendering-more h =
       let bytes = length (turn .drives) in
-      let driven = drivenOf (readingOf image) in
+      let driven = drivenOf (openingOf image) in
       let p = turn .told .plays in
       let enough : blockSamples ≤ setsIn bytes driven = omega (arith, plays-count p) in
       let full : count ≡ blockSamples = omega (arith, turn-few) in
@@ -160,6 +172,6 @@ read-is part rest n c = c .1 ∙ ap length (sym (take-append-le n part rest (c .
 pub read-few : (part buffer : List ℕ) (n most : ℕ) → Counts n part → length part ≡ length (take most buffer) → n ≤ most
 read-few part buffer n most c l = omega (arith, c .0, length-take most buffer)
 
-pub turned : {image drives text : List ℕ} {x y : List ℤ} {n number count bytes driven : ℕ} → Told image x n drives number count y text → n ≡ setsIn bytes driven → driven ≡ drivenOf (readingOf image) → bytes ≡ length drives → bytes ≤ 4 * blockSamples * driven → Turned image x number count y
+pub turned : {image drives text : List ℕ} {x y : State} {n number count bytes driven : ℕ} → Told image x n drives number count y text → n ≡ setsIn bytes driven → driven ≡ drivenOf (openingOf image) → bytes ≡ length drives → bytes ≤ 4 * blockSamples * driven → Turned image x number count y
 turned {drives = drives} {text = text} t n d l few =
     record { drives = drives; text = text; room = rw (d, l) at few; told = rw (n, d, l) at t }

@@ -1,6 +1,6 @@
 // All blocks of a file of drives, one after the other.
 use crate::ending;
-use crate::ending::Ending;
+use crate::ending::Finish;
 use crate::turn;
 use block::State;
 ghost use Rattle.rendering.specs.Rendering.{Rendered};
@@ -9,7 +9,7 @@ ghost use Rattle.rendering.specs.Rendering.{Rendered};
 const ENOUGH: u64 = 4611686018427387904;
 
 // Renders block after block from a fresh state, up to one that is short or refused.
-fn blocks(image: &[u8], drives: i32, out: i32) -> Ending
+fn blocks(image: &[u8], drives: i32, out: i32) -> Finish
     ensures { λ r. ⌜ Rendered (now (image .entry)) (r .number) (r .count) ⌝ }
 {
     let driven = turn::driven(image);
@@ -19,14 +19,14 @@ fn blocks(image: &[u8], drives: i32, out: i32) -> Ending
         let turn = turn::next(image, driven, state, drives, out);
         total += turn.count;
         if turn.count < turn::SAMPLES {
-            return Ending {
+            return Finish {
                 number: turn.number,
                 count: total,
             };
         }
         state = turn.state;
     }
-    Ending {
+    Finish {
         number: 0,
         count: total,
     }
@@ -34,7 +34,7 @@ fn blocks(image: &[u8], drives: i32, out: i32) -> Ending
 
 // Writes a line for each sample, and then how it ended. Both files are descriptors; one that can't be
 // read counts as empty.
-pub fn render(image: &[u8], drives: i32, out: i32) -> Ending
+pub fn render(image: &[u8], drives: i32, out: i32) -> Finish
     ensures { λ r. ⌜ Rendered (now (image .entry)) (r .number) (r .count) ⌝ }
 {
     let ending = blocks(image, drives, out);

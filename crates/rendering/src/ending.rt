@@ -6,7 +6,7 @@ ghost use Rattle.console.specs.Text.{Adds};
 ghost use Rattle.rendering.specs.Rendering.{Closing};
 
 // Document 01's number, 0 where every sample was accepted, and how many were, over all blocks.
-pub struct Ending {
+pub struct Finish {
     pub number: u64,
     pub count: u64,
 }

@@ -5,4 +5,4 @@ mod lines;
 mod turn;
 
 pub use blocks::render;
-pub use ending::Ending;
+pub use ending::Finish;

@@ -33,7 +33,7 @@ fn put_lines(text: &mut [u8], outputs: &[u8], n: usize) -> usize
 // Plays a block of up to 1,024 samples, and puts its lines at the start of `text`.
 pub fn play(image: &[u8], state: State, n: u64, drives: &[u8], text: &mut [u8]) -> Turn
     requires { ⌜ (n ≤ 1024) × (22528 ≤ length (now text)) ⌝ }
-    ensures { λ r. ⌜ Told (now (image .entry)) (state .currents) n (now (drives .entry)) (r .number) (r .count) (r .state .currents) (take (r .length) (now (text .exit))) × (r .length ≤ length (now (text .exit))) ⌝ }
+    ensures { λ r. ⌜ Told (now (image .entry)) state n (now (drives .entry)) (r .number) (r .count) (r .state) (take (r .length) (now (text .exit))) × (r .length ≤ length (now (text .exit))) ⌝ }
 {
     let mut outputs = [0u8; 4096];
     let played = block::block(image, state, n, drives, &mut outputs);

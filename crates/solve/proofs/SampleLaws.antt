@@ -1,100 +1,77 @@
--- One sample: that each of its ends is the outcome that network defines. Assumes nothing.
-use mathlib.Core.Path.{_≡_, refl, sym, _∙_, subst}
+-- One sample: that each of its ends is the outcome that network defines, and the only one. Assumes nothing.
+use mathlib.Core.Path.{_≡_, refl, sym, _∙_, ap, subst}
 use mathlib.Core.Bool.{true, false}
 use mathlib.Core.List.{List}
-use mathlib.Core.Logic.{inl, inr}
+use mathlib.Core.Logic.{inl, inr, ⊎-elim}
 use Prim.Native.Nat.{ℕ, _≤_, _<_}
 use native.Mathlib.Omega.{arith}
 use lib.IntN.{ℤ, pos}
-use lib.ListN.{length}
+use Rattle.units.specs.Number.{numberOf}
 use Rattle.units.specs.Voltage.{voltageLimit}
-use Rattle.units.proofs.Integers.{signs, pos-law, abs-law}
-use Rattle.network.specs.Network.{reading, steepest}
-use Rattle.network.specs.Sample.{Answer, Empty}
+use Rattle.units.specs.declared.number.Number.{Number}
+use Rattle.units.specs.declared.number.Number.the-variants.{Done, Drive, Rail, Stored}
+use Rattle.units.proofs.Integers.{signs, pos-law, abs-law, decideN}
+use Rattle.network.specs.Network.{Network, Free, Wired, reading}
+use Rattle.network.specs.Sample.{Answer, Empty, accepted, driveRefused, railRefused, storedRefused}
+use Rattle.network.proofs.Outcome.{one-outcome}
 use Rattle.network.proofs.Ranges.{legal-in-range}
-use Rattle.circuit.specs.Board.{nodesOn, networkOn, Ready, Kept, Ranged, Evaluable}
+use Rattle.circuit.specs.Board.{networkOn, Ranged}
 use Rattle.circuit.specs.Advance.{AllKept, StoredTo}
-use Rattle.circuit.specs.Opening.{steepestSums}
-use Rattle.image.proofs.Tables.{padded-at}
-use Rattle.solve.specs.Search.{Steep}
-use Rattle.solve.specs.Answer.{drivesAt, Solvable}
-use Rattle.solve.specs.Sample.{DrivesTested, TopTested, Given, Sampled}
-use Rattle.solve.specs.declared.sample.Outcome.{Outcome}
-use Rattle.solve.specs.declared.sample.Outcome.the-variants.{Accepted, DriveRefused, RailRefused, StoredRefused}
+use Rattle.solve.specs.Answer.{drivesAt}
+use Rattle.solve.specs.Sample.{DrivesTested, TopTested, Playable, Sampled, passed, refused}
 
-module _ (image board : List ℕ) (volts stored : List ℤ) where
-  pub drive-refused : (volts′ : List ℤ) → DrivesTested board volts false → Sampled image board volts stored volts′ stored DriveRefused
-  drive-refused volts′ t = record { gives = record { drive = t .0; there = t .1; beyond = t .2 }; carried = refl }
+module _ (board : List ℕ) (stretches volts stored : List ℤ) where
+  pub drive-refused : {v : List ℤ} → DrivesTested board volts false → Sampled (networkOn board stretches) (drivesAt volts) stored stored v Drive
+  drive-refused t = refused driveRefused (record { drive = t .0; there = t .1; beyond = t .2 }) (omega arith) refl
 
   module _ (legal : DrivesTested board volts true) where
-    pub sample-solvable : (lines : List ℤ) (steep : List ℕ) → Given image board lines steep stored → Solvable image board lines stored steep volts
-    sample-solvable lines steep g = record { ready = g .ready; kept = g .kept; steepest-sums = g .steepest-sums; drives = legal }
+    pub empty-refused : {v : List ℤ} → Empty (networkOn board stretches) (reading stored) (drivesAt volts) → Sampled (networkOn board stretches) (drivesAt volts) stored stored v Rail
+    empty-refused none = refused railRefused (record { drives = legal; rail = inl none }) (omega arith) refl
 
-    pub empty-refused : (volts′ : List ℤ) → Empty (networkOn image board) (reading stored) (drivesAt volts) → Sampled image board volts stored volts′ stored RailRefused
-    empty-refused volts′ none = record { gives = record { drives = legal; rail = inl none }; carried = refl }
+    module _ (v : List ℤ) (answer : Answer (networkOn board stretches) (reading stored) (drivesAt volts) (reading v)) where
+      pub answer-ranged : Ranged board v
+      answer-ranged = legal-in-range (networkOn board stretches) (drivesAt volts) (reading v) (answer .legal) legal
 
-    module _ (volts′ : List ℤ) (answer : Answer (networkOn image board) (reading stored) (drivesAt volts) (reading volts′)) where
-      pub answer-ranged : Ranged board volts′
-      answer-ranged = legal-in-range (networkOn image board) (drivesAt volts) (reading volts′) (answer .legal) legal
+      pub top-refused : TopTested board v true → Sampled (networkOn board stretches) (drivesAt volts) stored stored v Rail
+      top-refused t =
+          let free : Free (networkOn board stretches) (t .0) = (t .1, t .2) in
+          let top : reading v (t .0) ≡ pos voltageLimit = omega (signs, t .3, answer .legal .range (t .0) free, abs-law (reading v (t .0)), pos-law voltageLimit) in
+          refused railRefused (record { drives = legal; rail = inr (reading v, answer, record { node = t .0; free = free; top = top }) }) (omega arith) refl
 
-      pub top-refused : TopTested board volts′ true → Sampled image board volts stored volts′ stored RailRefused
-      top-refused t = record {
-        gives = record {
+      module _ (below : TopTested board v false) (y : List ℤ) where
+        pub sample-accepted : AllKept board stretches v stored true → StoredTo board stretches v stored (networkOn board stretches .count) y → Sampled (networkOn board stretches) (drivesAt volts) stored y v Done
+        sample-accepted kept new = passed (record { drives = legal; answer = answer; below = λ i f. below i (f .0) (f .1); stored = new .new; kept = λ j l. rw (new .new j l) (kept j l) }) (new .long) (new .old)
+
+        pub stored-refused : AllKept board stretches v stored false → y ≡ stored → Sampled (networkOn board stretches) (drivesAt volts) stored y v Stored
+        stored-refused beyond same = refused storedRefused (record {
           drives = legal;
-          rail = inr (
-            reading volts′,
-            answer,
-            record {
-              node = t .0;
-              free = (t .1, t .2);
-              top = omega (signs, t .3, answer .legal .range (t .0) (t .1, t .2), abs-law (reading volts′ (t .0)), pos-law voltageLimit);
-            },
-          );
-        };
-        carried = refl;
-      }
-
-      module _ (below : TopTested board volts′ false) where
-        pub sample-accepted : (stored′ : List ℤ) → AllKept image board volts′ stored true → StoredTo image board volts′ stored (networkOn image board .count) stored′ → Sampled image board volts stored volts′ stored′ Accepted
-        sample-accepted stored′ kept new = record {
-          gives = record {
-            drives = legal;
-            answer = answer;
-            below = λ i f. below i (f .0) (f .1);
-            stored = new .new;
-            kept = λ j l. rw (new .new j l) (kept j l);
-          };
-          carried = (new .long, new .old);
-        }
-
-        pub stored-refused : (stored′ : List ℤ) → AllKept image board volts′ stored false → stored′ ≡ stored → Sampled image board volts stored volts′ stored′ StoredRefused
-        stored-refused stored′ beyond same = record {
-          gives = record {
-            drives = legal;
-            voltages = reading volts′;
-            answer = answer;
-            below = λ i f. below i (f .0) (f .1);
-            branch = beyond .0;
-            there = beyond .1;
-            beyond = beyond .2;
-          };
-          carried = same;
-        }
+          voltages = reading v;
+          answer = answer;
+          below = λ i f. below i (f .0) (f .1);
+          branch = beyond .0;
+          there = beyond .1;
+          beyond = beyond .2;
+        }) (omega arith) same
 
 -- ---- from one sample to the next
 
 -- whatever came of a sample, the stored currents are still within their limit
-module _ (image board : List ℕ) (lines : List ℤ) (steep : List ℕ) (volts stored volts′ stored′ : List ℤ) (g : Given image board lines steep stored) where
-  -- a refused sample leaves them
-  left : stored′ ≡ stored → Given image board lines steep stored′
-  left e = subst (λ (l : List ℤ). Given image board lines steep l) (sym e) g
+pub playable-after : {board : List ℕ} {stretches stored y v : List ℤ} {d : ℕ → ℤ} {r : Number} → Playable board stretches stored → Sampled (networkOn board stretches) d stored y v r → Playable board stretches y
+playable-after g (passed gives long old) = record { ready = g .ready; kept = gives .kept; long = long ∙ g .long }
+playable-after {board} {stretches} g (refused r gives n e) = subst (λ (l : List ℤ). Playable board stretches l) (sym e) g
 
-  pub given-after : (r : Outcome) → Sampled image board volts stored volts′ stored′ r → Given image board lines steep stored′
-  given-after Accepted s = record { ready = g .ready; steepest-sums = g .steepest-sums; kept = s .gives .kept; long = s .carried .0 ∙ g .long }
-  given-after DriveRefused s = left (s .carried)
-  given-after RailRefused s = left (s .carried)
-  given-after StoredRefused s = left (s .carried)
+-- ---- one outcome
 
--- the array that the opening makes has the steepest sums
-pub steep-of : (image board : List ℕ) (lines : List ℤ) (steep : List ℕ) → Ready image board lines → steep ≡ steepestSums image board → Steep image board steep
-steep-of image board lines steep ready e i free = rw e (padded-at 16 (steepest (networkOn image board)) 16 i (omega arith) (omega (arith, free .1, ready .limits .few-nodes)))
+-- what a sample promises leaves one number, one stored current in every place and, where it is accepted, one voltage at every node
+pub sampled-once : {N : Network} {d : ℕ → ℤ} {x y₁ y₂ v₁ v₂ : List ℤ} {r₁ r₂ : Number} → Wired N → Sampled N d x y₁ v₁ r₁ → Sampled N d x y₂ v₂ r₂ →
+    (r₁ ≡ r₂) × ((j : ℕ) → reading y₁ j ≡ reading y₂ j) × (r₁ ≡ Done → (j : ℕ) → j ≤ N .nodes → reading v₁ j ≡ reading v₂ j)
+sampled-once {N} {d} {x} {y₁} {y₂} {v₁} {v₂} wired (passed a l₁ old₁) (passed b l₂ old₂) =
+    let same = one-outcome N (reading x) d wired (accepted (reading v₁) (reading y₁)) (accepted (reading v₂) (reading y₂)) a b in (
+      refl,
+      λ j. ⊎-elim (λ (h : N .count ≤ j). old₁ j h ∙ sym (old₂ j h)) (λ (h : j < N .count). same .stored j h) (decideN (N .count) j),
+      λ e. same .voltages,
+    )
+sampled-once {N} {d} {x} {y₁ = y} {v₁ = v} wired (passed a l old) (refused r b n e) = absurd (omega (arith, n, ap numberOf (one-outcome N (reading x) d wired (accepted (reading v) (reading y)) r a b .answer)))
+sampled-once {N} {d} {x} {y₂ = y} {v₂ = v} wired (refused r a n e) (passed b l old) = absurd (omega (arith, n, ap numberOf (one-outcome N (reading x) d wired r (accepted (reading v) (reading y)) a b .answer)))
+sampled-once {N} {d} {x} wired (refused r a n e) (refused q b m f) =
+    (one-outcome N (reading x) d wired r q a b .answer, λ j. ap (λ (l : List ℤ). reading l j) (e ∙ sym f), λ z. absurd (omega (arith, n, ap numberOf z)))

@@ -1,43 +1,32 @@
 -- What climbing says of the voltages that it comes to. Assumes nothing.
 use mathlib.Core.Path.{_≡_}
+use mathlib.Core.Bool.{Bool, true, false}
 use mathlib.Core.List.{List}
-use mathlib.Core.Logic.{_⊎_}
-use Prim.Native.Nat.{ℕ, _≤_, _<_}
+use Prim.Native.Nat.{ℕ, _<_}
 use lib.IntN.{ℤ}
 use lib.ListN.{length}
-use lib.Signed.{_≤ℤ_}
-use Rattle.units.specs.Voltage.{InRange}
-use Rattle.network.specs.Network.{Free, reading}
-use Rattle.network.specs.Sample.{Legal, Low, Answer}
-use Rattle.circuit.specs.Board.{nodesOn, drivenOn, networkOn}
-use Rattle.solve.specs.Search.{LowAt}
-use Rattle.solve.specs.Visit.{Up, Risen}
-use Rattle.solve.specs.declared.climb.Ascent.{Ascent}
-use Rattle.solve.specs.declared.climb.Ascent.the-variants as ascent
+use Rattle.network.specs.Network.{reading}
+use Rattle.network.specs.Sample.{Legal, Low, Under, Answer}
+use Rattle.network.specs.Search.{depth}
+use Rattle.circuit.specs.Board.{networkOn, Ranged}
 
--- where a leap upwards takes a node that stands at v
-pub record Nearer (v u : ℤ) : Type 0 where
-  pub ranged : InRange u
-  pub over : v ≤ℤ u
+-- whatever the drives: if `before` is legal and low, so is `after`, which is nowhere lower
+pub record Up (board : List ℕ) (stretches stored before after : List ℤ) : Type 0 where
+  pub long : length after ≡ 16
+  pub ranged : Ranged board after
+  pub over : Under (networkOn board stretches) (reading before) (reading after)
+  pub low : (d : ℕ → ℤ) → Legal (networkOn board stretches) d (reading before) → Low (networkOn board stretches) (reading stored) (reading before) → Legal (networkOn board stretches) d (reading after) × Low (networkOn board stretches) (reading stored) (reading after)
 
--- .. and all nodes: no other place changes
-pub record LedUp (board : List ℕ) (volts far : List ℤ) : Type 0 where
-  pub long : length far ≡ 16
-  pub same : (j : ℕ) → j ≤ drivenOn board → reading far j ≡ reading volts j
-  pub free : (j : ℕ) → drivenOn board < j → j ≤ nodesOn board → Nearer (reading volts j) (reading far j)
+-- .. and is higher at some node
+pub record Risen (board : List ℕ) (stretches stored before after : List ℤ) : Type 0 where
+  pub up : Up board stretches stored before after
+  pub falls : depth (networkOn board stretches) (reading after) < depth (networkOn board stretches) (reading before)
 
--- a node did not rise, or its net current is not above zero
-abbrev pub FitsAt : (image board : List ℕ) (stored volts far : List ℤ) → ℕ → Type 0
-FitsAt image board stored volts far i = (reading far i ≤ℤ reading volts i) ⊎ LowAt image board stored far i
-
-abbrev pub Fits : (image board : List ℕ) (stored volts far : List ℤ) → Type 0
-Fits image board stored volts far = (i : ℕ) → Free (networkOn image board) i → FitsAt image board stored volts far i
-
--- what came of raising a node, or all
-abbrev pub Rose : (image board : List ℕ) (stored before after : List ℤ) → Ascent → Type 0
-Rose image board stored before after ascent.Still = after ≡ before
-Rose image board stored before after ascent.Risen = Risen image board stored before after
+-- what came of raising a node, or all: whether something rose
+abbrev pub Rose : (board : List ℕ) (stretches stored before after : List ℤ) → Bool → Type 0
+Rose board stretches stored before after true = Risen board stretches stored before after
+Rose board stretches stored before after false = after ≡ before
 
 -- what a climb ends with: the answer, whatever the drives, if it began with something legal and low
-abbrev pub Topped : (image board : List ℕ) (stored before after : List ℤ) → Type 0
-Topped image board stored before after = (d : ℕ → ℤ) → Legal (networkOn image board) d (reading before) → Low (networkOn image board) (reading stored) (reading before) → Answer (networkOn image board) (reading stored) d (reading after)
+abbrev pub Topped : (board : List ℕ) (stretches stored before after : List ℤ) → Type 0
+Topped board stretches stored before after = (d : ℕ → ℤ) → Legal (networkOn board stretches) d (reading before) → Low (networkOn board stretches) (reading stored) (reading before) → Answer (networkOn board stretches) (reading stored) d (reading after)

@@ -6,15 +6,14 @@ use Prim.Native.Nat.{ℕ, _≤_, _<_}
 use lib.IntN.{ℤ, pos, natAbs}
 use lib.ListN.{length}
 use lib.Signed.{_≤ℤ_, _<ℤ_}
+use Rattle.units.specs.Number.{numberOf}
 use Rattle.units.specs.Voltage.{voltageLimit, driveLimit, InDrive}
-use Rattle.network.specs.Network.{reading}
-use Rattle.network.specs.Sample.{accepted, driveRefused, railRefused, storedRefused, Gives}
-use Rattle.network.specs.Sample as Network
-use Rattle.circuit.specs.Board.{nodesOn, drivenOn, countOn, networkOn, Ready, Kept}
-use Rattle.solve.specs.Search.{Steep}
+use Rattle.units.specs.declared.number.Number.{Number}
+use Rattle.units.specs.declared.number.Number.the-variants.{Done}
+use Rattle.network.specs.Network.{Network, reading}
+use Rattle.network.specs.Sample.{Outcome, accepted, answerOf, Gives}
+use Rattle.circuit.specs.Board.{nodesOn, drivenOn, Ready, Kept}
 use Rattle.solve.specs.Answer.{drivesAt}
-use Rattle.solve.specs.declared.sample.Outcome.{Outcome}
-use Rattle.solve.specs.declared.sample.Outcome.the-variants.{Accepted, DriveRefused, RailRefused, StoredRefused}
 
 -- whether every drive is within its limit; one that is not, if there is one
 abbrev pub DrivesTested : List ℕ → List ℤ → Bool → Type 0
@@ -26,28 +25,24 @@ abbrev pub TopTested : List ℕ → List ℤ → Bool → Type 0
 TopTested board volts true = (i : ℕ) × (drivenOn board < i) × (i ≤ nodesOn board) × (pos voltageLimit ≤ℤ reading volts i)
 TopTested board volts false = (i : ℕ) → drivenOn board < i → i ≤ nodesOn board → reading volts i <ℤ pos voltageLimit
 
--- what a sample is given: a board that is ready, its steepest sums, and stored currents within their limit
-pub record Given (image board : List ℕ) (lines : List ℤ) (steep : List ℕ) (stored : List ℤ) : Type 0 where
-  pub ready : Ready image board lines
-  pub steepest-sums : Steep image board steep
+-- what a sample is given: a board that is ready, and stored currents within their limit
+pub record Playable (board : List ℕ) (stretches stored : List ℤ) : Type 0 where
+  pub ready : Ready board stretches
   pub kept : Kept board stored
   pub long : length stored ≡ 32
 
--- the outcome that the code's answer stands for, with the voltages and the stored currents afterwards
-abbrev pub outcomeOf : Outcome → List ℤ → List ℤ → Network.Outcome
-outcomeOf Accepted volts stored = accepted (reading volts) (reading stored)
-outcomeOf DriveRefused volts stored = driveRefused
-outcomeOf RailRefused volts stored = railRefused
-outcomeOf StoredRefused volts stored = storedRefused
-
--- what becomes of the stored currents: only those of elements change, and none in a refused sample
-abbrev pub Carried : List ℕ → List ℤ → List ℤ → Outcome → Type 0
-Carried board before after Accepted = (length after ≡ length before) × ((j : ℕ) → countOn board ≤ j → reading after j ≡ reading before j)
-Carried board before after DriveRefused = after ≡ before
-Carried board before after RailRefused = after ≡ before
-Carried board before after StoredRefused = after ≡ before
-
--- volts and stored before the sample, volts′ and stored′ after it
-pub record Sampled (image board : List ℕ) (volts stored volts′ stored′ : List ℤ) (r : Outcome) : Type 0 where
-  pub gives : Gives (networkOn image board) (reading stored) (drivesAt volts) (outcomeOf r volts′ stored′)
-  pub carried : Carried board stored stored′ r
+-- a sample with the drives d: x is stored before it and y after it, v are the voltages after it
+pub data Sampled (N : Network) (d : ℕ → ℤ) (x y v : List ℤ) : Number → Type 0 where
+  -- accepted with v and y; y is as long as x, and past the elements as it was
+  passed :
+      Gives N (reading x) d (accepted (reading v) (reading y))
+      → length y ≡ length x
+      → ((i : ℕ) → N .count ≤ i → reading y i ≡ reading x i)
+      → Sampled N d x y v Done
+  -- refused with r, whose number is not 0; nothing new is stored
+  refused :
+      (r : Outcome)
+      → Gives N (reading x) d r
+      → 0 < numberOf (answerOf r)
+      → y ≡ x
+      → Sampled N d x y v (answerOf r)

@@ -2,79 +2,63 @@
 use mathlib.Core.Path.{_≡_}
 use mathlib.Core.Bool.{cond}
 use mathlib.Core.List.{List}
-use Prim.Native.Nat.{ℕ, _≤_, _<_}
+use Prim.Native.Nat.{ℕ, suc, _≤_, _<_}
 use lib.IntN.{ℤ, pos, _+ℤ_}
 use lib.ListN.{length, set}
-use lib.Signed.{_≤ℤ_, _<ℤ_, ltZ}
-use Rattle.units.specs.Voltage.{voltageLimit}
+use lib.Signed.{_≤ℤ_, _<ℤ_}
+use Rattle.units.specs.Voltage.{belowTop}
 use Rattle.network.specs.Network.{Free, reading, net}
-use Rattle.network.specs.Sample.{Legal, Low, Under, Answer}
-use Rattle.network.specs.Search.{Visit}
-use Rattle.network.proofs.Measures.{height, depth}
-use Rattle.circuit.specs.Board.{nodesOn, drivenOn, networkOn, Ranged, Evaluable}
-use Rattle.solve.specs.Search.{LowAt}
-use Rattle.solve.specs.declared.certify.Turn.{Turn}
-use Rattle.solve.specs.declared.certify.Turn.the-variants.{Back, Waits, Goes}
-use Rattle.solve.specs.declared.certify.Round.{Round}
-use Rattle.solve.specs.declared.certify.Round.the-variants.{Through, Sticks, Went}
+use Rattle.network.specs.Sample.{Legal, Low, Answer}
+use Rattle.network.specs.Search.{Visit, height}
+use Rattle.circuit.specs.Board.{nodesOn, networkOn, Ranged, Evaluable}
+use Rattle.solve.specs.Search.{Changed, LowAt}
+use Rattle.solve.specs.Climb.{Risen}
+use Rattle.solve.specs.declared.certify.Stance.{Stance}
+use Rattle.solve.specs.declared.certify.Stance.the-variants.{Back, Waits, Goes}
+use Rattle.solve.specs.declared.certify.Lap.{Lap}
+use Rattle.solve.specs.declared.certify.Lap.the-variants.{Through, Sticks, Went}
 use Rattle.solve.specs.declared.certify.Verdict.{Verdict}
 use Rattle.solve.specs.declared.certify.Verdict.the-variants.{Highest, Higher}
 
 -- one microvolt more, below the top
 abbrev pub oneUp : ℤ → ℤ
-oneUp v = cond (ltZ v (pos voltageLimit)) (v +ℤ pos 1) v
+oneUp v = cond (belowTop v) (v +ℤ pos 1) v
 
 -- every free node raised so
-pub record Raised (board : List ℕ) (volts s : List ℤ) : Type 0 where
-  pub long : length s ≡ 16
-  pub same : (j : ℕ) → j ≤ drivenOn board → reading s j ≡ reading volts j
-  pub free : (j : ℕ) → drivenOn board < j → j ≤ nodesOn board → reading s j ≡ oneUp (reading volts j)
+abbrev pub Raised : (board : List ℕ) (volts s : List ℤ) → Type 0
+Raised board volts s = Changed (λ (j : ℕ) (u : ℤ). u ≡ oneUp (reading volts j)) board volts s (suc (nodesOn board))
 
 -- a visit for `volts` has come to s
-pub record Visiting (image board : List ℕ) (lines stored volts s : List ℤ) : Type 0 where
-  pub evaluable : Evaluable image board lines stored s
+pub record Visiting (board : List ℕ) (stretches stored volts s : List ℤ) : Type 0 where
+  pub evaluable : Evaluable board stretches stored s
   pub long : length s ≡ 16
   pub ranged : Ranged board volts
-  pub visit : Visit (networkOn image board) (reading stored) (reading volts) (reading s)
+  pub visit : Visit (networkOn board stretches) (reading stored) (reading volts) (reading s)
 
 -- what came of node i
-abbrev pub VisitedAt : (image board : List ℕ) (stored volts before after : List ℤ) → ℕ → Turn → Type 0
-VisitedAt image board stored volts before after i Back = (after ≡ before) × (reading before i ≤ℤ reading volts i)
-VisitedAt image board stored volts before after i Waits = (after ≡ before) × (reading volts i <ℤ reading before i) × LowAt image board stored before i
-VisitedAt image board stored volts before after i Goes =
-    (after ≡ set before i (reading volts i)) × (reading volts i <ℤ reading before i) × (pos 0 <ℤ net 1 (networkOn image board) (reading stored) (reading before) i)
+abbrev pub VisitedAt : (board : List ℕ) (stretches stored volts before after : List ℤ) → ℕ → Stance → Type 0
+VisitedAt board stretches stored volts before after i Back = (after ≡ before) × (reading before i ≤ℤ reading volts i)
+VisitedAt board stretches stored volts before after i Waits = (after ≡ before) × (reading volts i <ℤ reading before i) × LowAt board stretches stored before i
+VisitedAt board stretches stored volts before after i Goes =
+    (after ≡ set before i (reading volts i)) × (reading volts i <ℤ reading before i) × (pos 0 <ℤ net 1 (networkOn board stretches) (reading stored) (reading before) i)
 
 -- some node waits
-pub record Waiting (image board : List ℕ) (volts s : List ℤ) : Type 0 where
+pub record Waiting (board : List ℕ) (stretches volts s : List ℤ) : Type 0 where
   pub node : ℕ
-  pub free : Free (networkOn image board) node
+  pub free : Free (networkOn board stretches) node
   pub waits : reading volts node <ℤ reading s node
 
 -- no node that waits may go back
-abbrev pub Stuck : (image board : List ℕ) (stored volts s : List ℤ) → Type 0
-Stuck image board stored volts s = (i : ℕ) → Free (networkOn image board) i → reading volts i <ℤ reading s i → LowAt image board stored s i
+abbrev pub Stuck : (board : List ℕ) (stretches stored volts s : List ℤ) → Type 0
+Stuck board stretches stored volts s = (i : ℕ) → Free (networkOn board stretches) i → reading volts i <ℤ reading s i → LowAt board stretches stored s i
 
--- what came of one pass
-abbrev pub Passed : (image board : List ℕ) (stored volts before after : List ℤ) → Round → Type 0
-Passed image board stored volts before after Through = (j : ℕ) → j ≤ nodesOn board → reading after j ≡ reading volts j
-Passed image board stored volts before after Sticks = Waiting image board volts after × Stuck image board stored volts after
-Passed image board stored volts before after Went = height (networkOn image board) (reading after) < height (networkOn image board) (reading before)
-
--- ---- going up
-
--- whatever the drives: if `before` is legal and low, so is `after`, which is nowhere lower
-pub record Up (image board : List ℕ) (stored before after : List ℤ) : Type 0 where
-  pub long : length after ≡ 16
-  pub ranged : Ranged board after
-  pub over : Under (networkOn image board) (reading before) (reading after)
-  pub low : (d : ℕ → ℤ) → Legal (networkOn image board) d (reading before) → Low (networkOn image board) (reading stored) (reading before) → Legal (networkOn image board) d (reading after) × Low (networkOn image board) (reading stored) (reading after)
-
--- .. and is higher at some node
-pub record Risen (image board : List ℕ) (stored before after : List ℤ) : Type 0 where
-  pub up : Up image board stored before after
-  pub falls : depth (networkOn image board) (reading after) < depth (networkOn image board) (reading before)
+-- what came of one lap
+abbrev pub VisitedAll : (board : List ℕ) (stretches stored volts before after : List ℤ) → Lap → Type 0
+VisitedAll board stretches stored volts before after Through = (j : ℕ) → j ≤ nodesOn board → reading after j ≡ reading volts j
+VisitedAll board stretches stored volts before after Sticks = Waiting board stretches volts after × Stuck board stretches stored volts after
+VisitedAll board stretches stored volts before after Went = height (networkOn board stretches) (reading after) < height (networkOn board stretches) (reading before)
 
 -- what came of the whole visit: `volts` is the answer if it is legal and low, or s is higher
-abbrev pub Judged : (image board : List ℕ) (stored volts s : List ℤ) → Verdict → Type 0
-Judged image board stored volts s Highest = (d : ℕ → ℤ) → Legal (networkOn image board) d (reading volts) → Low (networkOn image board) (reading stored) (reading volts) → Answer (networkOn image board) (reading stored) d (reading volts)
-Judged image board stored volts s Higher = Risen image board stored volts s
+abbrev pub Judged : (board : List ℕ) (stretches stored volts s : List ℤ) → Verdict → Type 0
+Judged board stretches stored volts s Highest = (d : ℕ → ℤ) → Legal (networkOn board stretches) d (reading volts) → Low (networkOn board stretches) (reading stored) (reading volts) → Answer (networkOn board stretches) (reading stored) d (reading volts)
+Judged board stretches stored volts s Higher = Risen board stretches stored volts s

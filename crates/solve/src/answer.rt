@@ -5,20 +5,20 @@ use crate::climb;
 use crate::settle;
 use circuit::board;
 use circuit::node;
+use circuit::places;
 use units::signed;
 use units::voltage::Voltage;
 ghost use mathlib.Core.Path.{_≡_};
 ghost use mathlib.Core.Bool.{true};
-ghost use Prim.Native.Nat.{ℕ, _≤_, _<_};
-ghost use lib.IntN.{ℤ};
+ghost use Prim.Native.Nat.{_≤_, _<_};
 ghost use Rattle.network.specs.Network.{nodeLimit};
 ghost use Rattle.circuit.specs.Board.{nodesOn, drivenOn, Evaluable};
-ghost use Rattle.solve.specs.Search.{Steep, Searching};
-ghost use Rattle.solve.specs.Answer.{Placed, Seated, Start, Ended, Solvable, Solved};
+ghost use Rattle.solve.specs.Search.{Searching};
+ghost use Rattle.solve.specs.Answer.{SeatedAt, Seated, Start, Ended, Solvable, Solved};
 
 // Where a free node begins: at the top, or where it is, brought into range.
-fn placed(top: bool, v: i64) -> i64
-    ensures { λ r. ⌜ Placed top r ⌝ }
+fn seat_at(top: bool, v: i64) -> i64
+    ensures { λ r. ⌜ SeatedAt top r ⌝ }
 {
     if top {
         return Voltage::LIMIT;
@@ -27,16 +27,16 @@ fn placed(top: bool, v: i64) -> i64
 }
 
 // Ground at zero and every free node so; the driven nodes keep their drives.
-fn seat(board: &[u64; 164], top: bool, volts: &mut [i64; 16])
+fn seat(board: &[u64; 212], top: bool, volts: &mut [i64; 16])
     requires { ⌜ (nodesOn (now board) ≤ nodeLimit) × (drivenOn (now board) ≤ nodesOn (now board)) ⌝ }
     ensures { λ _. ⌜ Seated (now (board .entry)) top (now (volts .entry)) (now (volts .exit)) ⌝ }
 {
-    let given = settle::copied(volts);
+    let given = places::copied(volts);
     let nodes = board::nodes(board);
     let mut i = board::driven(board) + 1;
     volts[0] = 0;
     while i <= nodes {
-        volts[i] = placed(top, given[i]);
+        volts[i] = seat_at(top, given[i]);
         i += 1;
     }
 }
@@ -44,19 +44,18 @@ fn seat(board: &[u64; 164], top: bool, volts: &mut [i64; 16])
 // Whether no low assignment passes these voltages, by document 01's test of a start: net current at or
 // above zero at each free node.
 fn is_start(
-    image: &[u8],
-    board: &[u64; 164],
-    lines: &[i64; 136],
+    board: &[u64; 212],
+    stretches: &[i64; 408],
     stored: &[i64; 32],
     volts: &[i64; 16],
 ) -> bool
-    requires { ⌜ Evaluable (now image) (now board) (now lines) (now stored) (now volts) ⌝ }
-    ensures { λ r. ⌜ (r ≡ true → Start (now (image .entry)) (now (board .entry)) (now (stored .entry)) (now (volts .entry))) ⌝ }
+    requires { ⌜ Evaluable (now board) (now stretches) (now stored) (now volts) ⌝ }
+    ensures { λ r. ⌜ (r ≡ true → Start (now (board .entry)) (now (stretches .entry)) (now (stored .entry)) (now (volts .entry))) ⌝ }
 {
     let nodes = board::nodes(board);
     let mut i = board::driven(board) + 1;
     while i <= nodes {
-        if signed::less(node::net_current(image, board, lines, stored, volts, i), 0) {
+        if signed::less(node::net_current(board, stretches, stored, volts, i), 0) {
             return false;
         }
         i += 1;
@@ -66,61 +65,55 @@ fn is_start(
 
 // From the top of the range.
 fn from_top(
-    image: &[u8],
-    board: &[u64; 164],
-    lines: &[i64; 136],
+    board: &[u64; 212],
+    stretches: &[i64; 408],
     stored: &[i64; 32],
-    steep: &[u64; 16],
     volts: &mut [i64; 16],
 ) -> settle::Rest
-    requires { ⌜ Evaluable (now image) (now board) (now lines) (now stored) (now volts) × Steep (now image) (now board) (now steep) ⌝ }
-    ensures { λ r. ⌜ Ended (now (image .entry)) (now (board .entry)) (now (stored .entry)) (now (volts .entry)) (now (volts .exit)) r ⌝ }
+    requires { ⌜ Evaluable (now board) (now stretches) (now stored) (now volts) ⌝ }
+    ensures { λ r. ⌜ Ended (now (board .entry)) (now (stretches .entry)) (now (stored .entry)) (now (volts .entry)) (now (volts .exit)) r ⌝ }
 {
     seat(board, true, volts);
-    settle::settle(image, board, lines, stored, steep, volts)
+    settle::settle(board, stretches, stored, volts)
 }
 
 // From voltages in range: settled, certified, climbed. Where there is nothing below them, that decides
 // only if they are a start; else the top of the range does.
 fn from_proposal(
-    image: &[u8],
-    board: &[u64; 164],
-    lines: &[i64; 136],
+    board: &[u64; 212],
+    stretches: &[i64; 408],
     stored: &[i64; 32],
-    steep: &[u64; 16],
     volts: &mut [i64; 16],
 ) -> settle::Rest
-    requires { ⌜ Searching (now image) (now board) (now lines) (now stored) (now steep) (now volts) ⌝ }
-    ensures { λ r. ⌜ Ended (now (image .entry)) (now (board .entry)) (now (stored .entry)) (now (volts .entry)) (now (volts .exit)) r ⌝ }
+    requires { ⌜ Searching (now board) (now stretches) (now stored) (now volts) ⌝ }
+    ensures { λ r. ⌜ Ended (now (board .entry)) (now (stretches .entry)) (now (stored .entry)) (now (volts .entry)) (now (volts .exit)) r ⌝ }
 {
-    let start = settle::copied(volts);
-    match settle::settle(image, board, lines, stored, steep, volts) {
+    let start = places::copied(volts);
+    match settle::settle(board, stretches, stored, volts) {
         settle::Rest::Found => {
-            climb::climb(image, board, lines, stored, steep, volts);
+            climb::climb(board, stretches, stored, volts);
             settle::Rest::Found
         }
         settle::Rest::Nothing => {
-            if is_start(image, board, lines, stored, &start) {
+            if is_start(board, stretches, stored, &start) {
                 return settle::Rest::Nothing;
             }
             *volts = start;
-            from_top(image, board, lines, stored, steep, volts)
+            from_top(board, stretches, stored, volts)
         }
     }
 }
 
 // The answer at the nodes, or that there is none.
 pub fn solve(
-    image: &[u8],
-    board: &[u64; 164],
-    lines: &[i64; 136],
+    board: &[u64; 212],
+    stretches: &[i64; 408],
     stored: &[i64; 32],
-    steep: &[u64; 16],
     volts: &mut [i64; 16],
 ) -> settle::Rest
-    requires { ⌜ Solvable (now image) (now board) (now lines) (now stored) (now steep) (now volts) ⌝ }
-    ensures { λ r. ⌜ Solved (now (image .entry)) (now (board .entry)) (now (stored .entry)) (now (volts .entry)) (now (volts .exit)) r ⌝ }
+    requires { ⌜ Solvable (now board) (now stretches) (now stored) (now volts) ⌝ }
+    ensures { λ r. ⌜ Solved (now (board .entry)) (now (stretches .entry)) (now (stored .entry)) (now (volts .entry)) (now (volts .exit)) r ⌝ }
 {
     seat(board, false, volts);
-    from_proposal(image, board, lines, stored, steep, volts)
+    from_proposal(board, stretches, stored, volts)
 }

@@ -1,6 +1,8 @@
 // The exact search: the highest voltages of a sample, or that there are none.
-pub mod answer;
+mod answer;
 mod certify;
 mod climb;
+mod leap;
+mod low;
 pub mod sample;
-pub mod settle;
+mod settle;

@@ -13,18 +13,11 @@ use lib.Dec.{leb, ltb, leb→le, le→leb, ltb→lt, lt→ltb, nleb→lt}
 use borrow.Author.Tests.{ltb-true, ltb-false}
 use lib.IntN.{ℤ, pos, negsuc, negℤ, natAbs, subℕ, _+ℤ_, _-ℤ_, _*ℤ_}
 use lib.Signed.{_≤ℤ_, _<ℤ_, leZ, ltZ}
-use Rattle.units.specs.Integer.{lower, higher}
+use Rattle.units.specs.Integer.{up, dn, lower, higher}
 
 -- ---- a signed number as the difference of two naturals, one of which is 0
 
--- they stay shut, so that omega takes `up z` and `dn z` as unknowns
-pub up : ℤ → ℕ
-up (pos n) = n
-up (negsuc n) = 0
-
-pub dn : ℤ → ℕ
-dn (pos n) = 0
-dn (negsuc n) = suc n
+-- `up` and `dn` stay shut where no line unfolds them, so that omega takes `up z` and `dn z` as unknowns
 
 -- ---- order and equality: out of ℤ, and back in
 
@@ -105,13 +98,6 @@ unfolding up dn
 neg-pos-law zero = (refl, refl)
 neg-pos-law (suc m) = (refl, refl)
 
-pub mul-law : (a b : ℤ) → up (a *ℤ b) + up a * dn b + dn a * up b ≡ dn (a *ℤ b) + up a * up b + dn a * dn b
-unfolding up dn
-mul-law (pos a) (pos b) = omega arith
-mul-law (pos a) (negsuc b) = omega (arith, neg-pos-law (a * suc b))
-mul-law (negsuc a) (pos b) = omega (arith, neg-pos-law (suc a * b))
-mul-law (negsuc a) (negsuc b) = omega arith
-
 -- a product by a natural, part by part: what the network's currents are made of
 pub scale-law : (g : ℕ) (v : ℤ) → (up (pos g *ℤ v) ≡ g * up v) × (dn (pos g *ℤ v) ≡ g * dn v)
 unfolding up dn
@@ -130,37 +116,6 @@ one-sided (pos n) = inl refl
 one-sided (negsuc n) = inr refl
 
 -- ---- products
-
--- a product spread over an equation of sums
-spread : (g a b c d e f : ℕ) → a + b + c ≡ d + e + f → g * a + g * b + g * c ≡ g * d + g * e + g * f
-spread g a b c d e f h = sym (mul-add g (a + b) c ∙ ap (λ (n : ℕ). n + g * c) (mul-add g a b)) ∙ ap (λ (n : ℕ). g * n) h ∙ (mul-add g (d + e) f ∙ ap (λ (n : ℕ). n + g * f) (mul-add g d e))
-
--- distributivity, for any factor
-pub mul-add-law : (g a b : ℤ) → g *ℤ (a +ℤ b) ≡ g *ℤ a +ℤ g *ℤ b
-mul-add-law g a b =
-    eq-in _ _
-    (omega (
-      arith,
-      add-law (g *ℤ a) (g *ℤ b),
-      mul-law g (a +ℤ b),
-      mul-law g a,
-      mul-law g b,
-      spread (up g) _ _ _ _ _ _ (add-law a b),
-      spread (dn g) _ _ _ _ _ _ (add-law a b),
-    ))
-
-pub mul-sub-law : (g a b : ℤ) → g *ℤ (a -ℤ b) ≡ g *ℤ a -ℤ g *ℤ b
-mul-sub-law g a b =
-    eq-in _ _
-    (omega (
-      arith,
-      sub-law (g *ℤ a) (g *ℤ b),
-      mul-law g (a -ℤ b),
-      mul-law g a,
-      mul-law g b,
-      spread (up g) _ _ _ _ _ _ (sub-law a b),
-      spread (dn g) _ _ _ _ _ _ (sub-law a b),
-    ))
 
 -- a factor that isn't negative keeps the order
 pub scale-mono : (g : ℕ) (a b : ℤ) → a ≤ℤ b → (pos g *ℤ a) ≤ℤ (pos g *ℤ b)
@@ -223,12 +178,6 @@ Rise a t b = up a + dn b + t ≤ up b + dn a
 
 abbrev pub Reach : ℤ → ℕ → ℤ → Type 0
 Reach a t b = up b + dn a ≤ up a + dn b + t
-
-pub rise-says : (a b : ℤ) (t : ℕ) → Rise a t b ↔ ((a +ℤ pos t) ≤ℤ b)
-rise-says a b t = (λ h. omega (signs, add-law a (pos t), pos-law t), λ h. omega (signs, add-law a (pos t), pos-law t))
-
-pub reach-says : (a b : ℤ) (t : ℕ) → Reach a t b ↔ (b ≤ℤ (a +ℤ pos t))
-reach-says a b t = (λ h. omega (signs, add-law a (pos t), pos-law t), λ h. omega (signs, add-law a (pos t), pos-law t))
 
 -- ---- deciding, and the lower and the higher of two
 

@@ -1,7 +1,10 @@
 pub mod Clamping
 pub mod Doubling
+pub mod Every
 pub mod Integers
 pub mod LittleEndian
 pub mod Machine
+pub mod Numbers
 pub mod Rounding
 pub mod Sizes
+pub mod Tables

@@ -6,8 +6,8 @@ use native.Mathlib.Omega.{arith}
 use native.Mathlib.Nat.{le-refl, suc-mul, mul-add, mul-div-le, lt-mul-div-succ}
 use native.Mathlib.Numerals.{add-one}
 use lib.IntN.{ℤ, pos, negsuc, negℤ, natAbs, _+ℤ_, _-ℤ_, _*ℤ_}
-use Rattle.units.specs.Integer.{sum, total, roundedUp}
-use Rattle.units.proofs.Integers.{up, dn, add-law, sub-law, abs-law, one-sided, decideN}
+use Rattle.units.specs.Integer.{up, dn, sum, total, roundedUp}
+use Rattle.units.proofs.Integers.{add-law, sub-law, abs-law, one-sided, decideN}
 
 -- |z| is the least sum of two numbers whose difference is z
 pub abs-least : (z : ℤ) (x y : ℕ) → up z + y ≡ dn z + x → natAbs z ≤ x + y
@@ -35,10 +35,6 @@ abs-mul (negsuc a) (pos b) = abs-neg (pos (suc a * b))
 abs-mul (negsuc a) (negsuc b) = refl
 
 -- ---- sums, as a loop's invariant has them
-
-pub sum-none : (f : ℕ → ℤ) → sum f 0 ≡ pos 0
-unfolding sum
-sum-none f = refl
 
 pub sum-more : (f : ℕ → ℤ) (n : ℕ) → sum f (n + 1) ≡ sum f n +ℤ f n
 unfolding sum
@@ -70,10 +66,6 @@ total-grows f m (suc n) h = ⊎-elim
     (λ (l : n < m). let e : m ≡ suc n = omega arith in rw e (le-refl _)) (decideN m n)
 
 -- ---- division by s above 0
-
--- rounded down: the greatest r with s r ≤ n
-pub rounded-down-law : (n s : ℕ) → 0 < s → (s * (n / s) ≤ n) × (n < s * (n / s + 1))
-rounded-down-law n s p = (mul-div-le n s, lt-mul-div-succ n p)
 
 -- rounded up: the least r with n ≤ s r
 pub rounded-up-law : (n s : ℕ) → 0 < s → (n ≤ s * roundedUp n s) × (s * roundedUp n s < n + s)

@@ -14,12 +14,12 @@ littleEndian zero s at = 0
 littleEndian (suc n) s at = getD s at 0 + 256 * littleEndian n s (at + 1)
 
 -- s with the n lowest bytes of v in it from `at` on
-unfoldable pub stored : ℕ → List ℕ → ℕ → ℕ → List ℕ
-stored zero s at v = s
-stored (suc n) s at v = stored n (set s at (v % 256)) (at + 1) (v / 256)
+unfoldable pub written : ℕ → List ℕ → ℕ → ℕ → List ℕ
+written zero s at v = s
+written (suc n) s at v = written n (set s at (v % 256)) (at + 1) (v / 256)
 
 -- r is what those bytes hold; the bound is for a caller that casts or sums it
-pub record Holds (n : ℕ) (s : List ℕ) (at r : ℕ) : Type 0 where
+pub record Spells (n : ℕ) (s : List ℕ) (at r : ℕ) : Type 0 where
   pub value : r ≡ littleEndian n s at
   pub small : r < 256 ^ n
 

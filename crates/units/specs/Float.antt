@@ -1,7 +1,7 @@
 -- A voltage and an f64. A finite float is `fin negative m e`, exactly m * 2 ^ e in size; `up e` and `down e` are that power's
 -- numerator and denominator. Assumes nothing.
 use mathlib.Core.Path.{_≡_}
-use mathlib.Core.Bool.{Bool, true, false}
+use mathlib.Core.Bool.{Bool, true, false, cond}
 use Prim.Native.Nat.{ℕ, suc, _+_, _*_, _/_, _^_, _<_}
 use lib.IntN.{ℤ, pos, negsuc, negℤ}
 use lib.Ieee.{Float, nan, inf, fin, binary64, up, down, ofInt}
@@ -28,13 +28,9 @@ abbrev pub signed : Bool → ℕ → ℤ
 signed true n = negℤ (pos n)
 signed false n = pos n
 
-abbrev pub pick : Bool → Nearest → Nearest → Nearest
-pick true a b = a
-pick false a b = b
-
 -- a whole number as a voltage, where it is in range
 abbrev pub rounded : ℤ → Nearest
-rounded z = pick (within voltageLimit z) (At (record { microvolts = z })) Nothing
+rounded z = cond (within voltageLimit z) (At (record { microvolts = z })) Nothing
 
 -- the nearest voltage, halves away from zero; none for a NaN, an infinity or a result out of range
 unfoldable pub nearestVoltage : Float → Nearest

@@ -1,8 +1,17 @@
 -- The few functions on ℤ that definitions use and the library lacks. Assumes nothing.
 use mathlib.Core.Bool.{cond}
 use Prim.Native.Nat.{ℕ, zero, suc, _+_, _-_, _/_}
-use lib.IntN.{ℤ, pos, _+ℤ_}
+use lib.IntN.{ℤ, pos, negsuc, _+ℤ_}
 use lib.Signed.{leZ}
+
+-- a number as the difference of two without a sign, one of which is 0
+unfoldable pub up : ℤ → ℕ
+up (pos n) = n
+up (negsuc n) = 0
+
+unfoldable pub dn : ℤ → ℕ
+dn (pos n) = 0
+dn (negsuc n) = suc n
 
 -- the lower and the higher of two
 unfoldable pub lower : ℤ → ℤ → ℤ

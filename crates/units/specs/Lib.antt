@@ -1,4 +1,6 @@
 pub mod Bytes
 pub mod Float
 pub mod Integer
+pub mod Number
+pub mod Table
 pub mod Voltage

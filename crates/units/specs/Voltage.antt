@@ -27,6 +27,16 @@ InRange z = Within voltageLimit z
 abbrev pub InDrive : ℤ → Type 0
 InDrive z = Within driveLimit z
 
+-- the bottom of the range, and whether v stands above it, or below the top
+abbrev pub bottom : ℤ
+bottom = negℤ (pos voltageLimit)
+
+abbrev pub aboveBottom : ℤ → Bool
+aboveBottom v = ltZ bottom v
+
+abbrev pub belowTop : ℤ → Bool
+belowTop v = ltZ v (pos voltageLimit)
+
 -- the voltage in range that is nearest to v
 unfoldable pub clamped : ℤ → ℤ
-clamped v = cond (within voltageLimit v) v (cond (ltZ v (pos 0)) (negℤ (pos voltageLimit)) (pos voltageLimit))
+clamped v = cond (within voltageLimit v) v (cond (ltZ v (pos 0)) bottom (pos voltageLimit))

@@ -1,5 +1,5 @@
 // Numbers in the bytes of a slice, the lowest byte first. Wider numbers are read and written by
-// halves, so that each width cites one law of `littleEndian` and `stored`.
+// halves, so that each width cites one law of `littleEndian` and `written`.
 use super::signed;
 ghost use mathlib.Core.Path.{_≡_};
 ghost use Prim.Native.Nat.{ℕ, _+_, _*_, _^_, _≤_, _<_};
@@ -7,7 +7,7 @@ ghost use lib.ListN.{length};
 ghost use lib.IntN.{ℤ};
 ghost use mir.Syntax.{w32, w64};
 ghost use mir.Val.{toZ, ofZ};
-ghost use Rattle.units.specs.Bytes.{Holds, littleEndian, stored, twosComplement};
+ghost use Rattle.units.specs.Bytes.{Spells, littleEndian, written, twosComplement};
 
 fn wide(x: u8) -> u64
     ensures { λ r. ⌜ (r ≡ x) × (r < 256) ⌝ }
@@ -17,21 +17,21 @@ fn wide(x: u8) -> u64
 
 pub fn u16_at(s: &[u8], at: usize) -> u64
     requires { ⌜ at + 2 ≤ length (now s) ⌝ }
-    ensures { λ r. ⌜ Holds 2 (now (s .entry)) at r ⌝ }
+    ensures { λ r. ⌜ Spells 2 (now (s .entry)) at r ⌝ }
 {
     wide(s[at]) + 256 * wide(s[at + 1])
 }
 
 pub fn u32_at(s: &[u8], at: usize) -> u64
     requires { ⌜ at + 4 ≤ length (now s) ⌝ }
-    ensures { λ r. ⌜ Holds 4 (now (s .entry)) at r ⌝ }
+    ensures { λ r. ⌜ Spells 4 (now (s .entry)) at r ⌝ }
 {
     u16_at(s, at) + 65536 * u16_at(s, at + 2)
 }
 
 pub fn u64_at(s: &[u8], at: usize) -> u64
     requires { ⌜ at + 8 ≤ length (now s) ⌝ }
-    ensures { λ r. ⌜ Holds 8 (now (s .entry)) at r ⌝ }
+    ensures { λ r. ⌜ Spells 8 (now (s .entry)) at r ⌝ }
 {
     u32_at(s, at) + 4294967296 * u32_at(s, at + 4)
 }
@@ -77,7 +77,7 @@ pub fn i64_at(s: &[u8], at: usize) -> i64
 // The writers store the lowest bytes of any number, and leave every other byte alone.
 pub fn put_u16(s: &mut [u8], at: usize, v: u64)
     requires { ⌜ at + 2 ≤ length (now s) ⌝ }
-    ensures { λ _. ⌜ now (s .exit) ≡ stored 2 (now (s .entry)) at v ⌝ }
+    ensures { λ _. ⌜ now (s .exit) ≡ written 2 (now (s .entry)) at v ⌝ }
 {
     s[at] = (v % 256) as u8;
     s[at + 1] = (v / 256 % 256) as u8;
@@ -85,7 +85,7 @@ pub fn put_u16(s: &mut [u8], at: usize, v: u64)
 
 pub fn put_u32(s: &mut [u8], at: usize, v: u64)
     requires { ⌜ at + 4 ≤ length (now s) ⌝ }
-    ensures { λ _. ⌜ now (s .exit) ≡ stored 4 (now (s .entry)) at v ⌝ }
+    ensures { λ _. ⌜ now (s .exit) ≡ written 4 (now (s .entry)) at v ⌝ }
 {
     put_u16(s, at, v);
     put_u16(s, at + 2, v / 65536);
@@ -93,7 +93,7 @@ pub fn put_u32(s: &mut [u8], at: usize, v: u64)
 
 pub fn put_u64(s: &mut [u8], at: usize, v: u64)
     requires { ⌜ at + 8 ≤ length (now s) ⌝ }
-    ensures { λ _. ⌜ now (s .exit) ≡ stored 8 (now (s .entry)) at v ⌝ }
+    ensures { λ _. ⌜ now (s .exit) ≡ written 8 (now (s .entry)) at v ⌝ }
 {
     put_u32(s, at, v);
     put_u32(s, at + 4, v / 4294967296);
@@ -101,14 +101,14 @@ pub fn put_u64(s: &mut [u8], at: usize, v: u64)
 
 pub fn put_i32(s: &mut [u8], at: usize, z: i64)
     requires { ⌜ at + 4 ≤ length (now s) ⌝ }
-    ensures { λ _. ⌜ now (s .exit) ≡ stored 4 (now (s .entry)) at (ofZ w64 z) ⌝ }
+    ensures { λ _. ⌜ now (s .exit) ≡ written 4 (now (s .entry)) at (ofZ w64 z) ⌝ }
 {
     put_u32(s, at, to_bits(z));
 }
 
 pub fn put_i64(s: &mut [u8], at: usize, z: i64)
     requires { ⌜ at + 8 ≤ length (now s) ⌝ }
-    ensures { λ _. ⌜ now (s .exit) ≡ stored 8 (now (s .entry)) at (ofZ w64 z) ⌝ }
+    ensures { λ _. ⌜ now (s .exit) ≡ written 8 (now (s .entry)) at (ofZ w64 z) ⌝ }
 {
     put_u64(s, at, to_bits(z));
 }

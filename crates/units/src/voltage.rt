@@ -5,7 +5,7 @@ ghost use mathlib.Core.Path.{_≡_};
 ghost use mathlib.Core.Bool.{true, false};
 ghost use Prim.Native.Nat.{ℕ, _≤_, _^_};
 ghost use lib.IntN.{ℤ, natAbs};
-ghost use Rattle.units.specs.Voltage.{within, voltageLimit, driveLimit, clamped};
+ghost use Rattle.units.specs.Voltage.{within, voltageLimit, driveLimit, aboveBottom, belowTop, clamped};
 ghost use Rattle.units.specs.Float.{Converted, Positive, nearestSize, rounded, nearestVoltage};
 
 pub struct Voltage {
@@ -65,6 +65,20 @@ impl Voltage {
         ensures { λ r. ⌜ r ≡ within driveLimit (self .microvolts) ⌝ }
     {
         within(self.microvolts, Voltage::DRIVE_LIMIT)
+    }
+
+    // Whether it stands above the bottom of the range.
+    pub fn above_bottom(self) -> bool
+        ensures { λ r. ⌜ r ≡ aboveBottom (self .microvolts) ⌝ }
+    {
+        signed::less(signed::minus(0, Voltage::LIMIT), self.microvolts)
+    }
+
+    // Whether it stands below the top of the range.
+    pub fn below_top(self) -> bool
+        ensures { λ r. ⌜ r ≡ belowTop (self .microvolts) ⌝ }
+    {
+        signed::less(self.microvolts, Voltage::LIMIT)
     }
 
     // The voltage in range that is nearest to v.

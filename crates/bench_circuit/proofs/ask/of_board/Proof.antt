@@ -35,7 +35,7 @@ returns-3 c = search needs
 
 sample-requires : tie.Need-sample-requires
 sample-requires c κs =
-    let s = c .before .before .before .before .before .before .before .before .before .before .before .before .before in
+    let s = c .before .before .before .before .before .before .before .before .before .before .before .before in
     let kept = c .before .before .before .all-kept .ensures (not-false _ (c .before .before .if3 .left)) in
     let ranged = c .before .before .before .before .before .before .all-in-range .ensures (not-false _ (c .before .before .before .before .before .if2 .left)) in
     (record { ready = s .pre; kept = kept; ranged = ranged }, search needs)

@@ -4,10 +4,10 @@ use Rattle.bench_circuit.proofs.show.flows.Statement.{statement}
 use Rattle.bench_circuit.proofs.show.flows.Tie as tie
 
 abbrev Inv-loop : tie.InvT-loop
-Inv-loop image board lines stored volts count j₀ j = j ≤ 32
+Inv-loop board stretches stored volts count j₀ j = j ≤ 32
 
 abbrev μ-loop : tie.MeasureT-loop
-μ-loop image board lines stored volts count j₀ j = 32 - j
+μ-loop board stretches stored volts count j₀ j = 32 - j
 
 count-requires : tie.Need-count-requires Inv-loop μ-loop
 count-requires c κs = search needs

@@ -4,10 +4,10 @@ use Rattle.bench_circuit.proofs.show.held.Statement.{statement}
 use Rattle.bench_circuit.proofs.show.held.Tie as tie
 
 abbrev Inv-loop : tie.InvT-loop
-Inv-loop image board lines nodes i₀ i = i ≤ 16
+Inv-loop board stretches nodes i₀ i = i ≤ 16
 
 abbrev μ-loop : tie.MeasureT-loop
-μ-loop image board lines nodes i₀ i = 16 - i
+μ-loop board stretches nodes i₀ i = 16 - i
 
 nodes-requires : tie.Need-nodes-requires Inv-loop μ-loop
 nodes-requires c κs = search needs

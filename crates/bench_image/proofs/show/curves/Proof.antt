@@ -5,22 +5,22 @@ use Rattle.bench_image.proofs.show.curves.Statement.{statement}
 use Rattle.bench_image.proofs.show.curves.Tie as tie
 
 abbrev Inv-loop : tie.InvT-loop
-Inv-loop s start k₀ k = k ≤ 8
+Inv-loop s first n at₀ k₀ at k = k ≤ n
 
 abbrev μ-loop : tie.MeasureT-loop
-μ-loop s start k₀ k = 8 - k
+μ-loop s first n at₀ k₀ at k = n - k
 
 loop-holds : tie.Need-loop-holds Inv-loop μ-loop
 loop-holds c = search needs
 
-mul-at : tie.Need-mul-at Inv-loop μ-loop
-mul-at c = search needs
-
-array-read-at : tie.Need-array-read-at Inv-loop μ-loop
-array-read-at c = search needs
+curve-at-requires : tie.Need-curve-at-requires Inv-loop μ-loop
+curve-at-requires c κs = search needs
 
 curve-requires : tie.Need-curve-requires Inv-loop μ-loop
 curve-requires c κs = search needs
+
+wrapping-add-usize-requires : tie.Need-wrapping-add-usize-requires Inv-loop μ-loop
+wrapping-add-usize-requires c κs = search needs
 
 add-k : tie.Need-add-k Inv-loop μ-loop
 add-k c = search needs
@@ -41,9 +41,9 @@ curves-spec =
     Inv-loop
     μ-loop
     loop-holds
-    mul-at
-    array-read-at
+    curve-at-requires
     curve-requires
+    wrapping-add-usize-requires
     add-k
     loop-less
     loop-again

@@ -5,13 +5,22 @@ use Rattle.bench_image.proofs.show.elements.Statement.{statement}
 use Rattle.bench_image.proofs.show.elements.Tie as tie
 
 abbrev Inv-loop : tie.InvT-loop
-Inv-loop c j₀ j-end j = j ≤ j-end
+Inv-loop p n rate j₀ j = j ≤ n
 
 abbrev μ-loop : tie.MeasureT-loop
-μ-loop c j₀ j-end j = j-end - j
+μ-loop p n rate j₀ j = n - j
+
+cast-n : tie.Need-cast-n Inv-loop μ-loop
+cast-n c = search needs
 
 loop-holds : tie.Need-loop-holds Inv-loop μ-loop
 loop-holds c = search needs
+
+mul-element : tie.Need-mul-element Inv-loop μ-loop
+mul-element c = search needs
+
+element-copy-out-element : tie.Need-element-copy-out-element Inv-loop μ-loop
+element-copy-out-element c = search needs
 
 element-requires : tie.Need-element-requires Inv-loop μ-loop
 element-requires c κs = search needs
@@ -31,4 +40,15 @@ returns c = search needs
 pub elements-spec : {M : Type 1} → statement M
 elements-spec =
     tie.close
-    (tie.spec Inv-loop μ-loop loop-holds element-requires add-j loop-less loop-again returns)
+    (tie.spec
+    Inv-loop
+    μ-loop
+    cast-n
+    loop-holds
+    mul-element
+    element-copy-out-element
+    element-requires
+    add-j
+    loop-less
+    loop-again
+    returns)

@@ -1,52 +1,67 @@
-use Rattle.circuit.proofs.OpeningLaws.{indexed, whole}
-use Rattle.bench_solve.proofs.Opening.{ready-is, first-given}
+use mathlib.Core.Path.{_≡_, sym, _∙_}
+use mathlib.Core.Bool.{true}
+use borrow.Author.Tests.{not-false}
+use Rattle.image.specs.Conductance.{conductancesFit}
+use Rattle.image.specs.Setting.{plain}
+use Rattle.solve.specs.Sample.{Playable}
+use Rattle.bench_solve.proofs.Opening.{first-playable}
 use borrow.Author.Needs.{needs}
 use Rattle.bench_solve.proofs.play.opened.Statement.{statement}
 use Rattle.bench_solve.proofs.play.opened.Tie as tie
 
-board-requires : tie.Need-board-requires
-board-requires c κs = let s = c .before in indexed (s .args .image .now) (s .args .c) (s .pre)
+conductances-fit-requires : tie.Need-conductances-fit-requires
+conductances-fit-requires c κs = search needs
 
-table-requires : tie.Need-table-requires
-table-requires c κs = let s = c .before .before .before .before in λ k h. whole (s .args .image .now) _ (s .pre .start-there k h) (s .pre .start-sound k h)
+value-requires : tie.Need-value-requires
+value-requires c κs = search needs
 
-steepest-sums-requires : tie.Need-steepest-sums-requires
-steepest-sums-requires c κs =
-    let s = c .before .before .before .before .before .before .before in
-    ready-is (s .args .image .now) (s .args .c) (c .before .before .before .before .before .board .result) (c .before .before .table .result) (s .pre) (c .before .before .before .before .before .board .ensures) (c .before .before .table .ensures)
-
-charged-requires : tie.Need-charged-requires
-charged-requires c κs = search needs
-
-once-requires : tie.Need-once-requires
-once-requires c κs =
-    let a = c .before .before .before .before .before in
-    let t = a .before .before .before .before in
-    let b = t .before .before .before in
-    let s = b .before .before in
-    first-given (s .args .image .now) (b .board .result) (t .table .result) (a .before .steepest-sums .result) (a .charged .result)
-    (ready-is (s .args .image .now) (s .args .c) (b .board .result) (t .table .result) (s .pre) (b .board .ensures) (t .table .ensures))
-    (a .before .steepest-sums .ensures)
-    (a .charged .ensures)
-
-samples-requires : tie.Need-samples-requires
-samples-requires c κs =
-    let a = c .before .before .before .before .before in
-    let t = a .before .before .before .before in
-    let b = t .before .before .before in
-    let s = b .before .before in
-    first-given (s .args .image .now) (b .board .result) (t .table .result) (a .before .steepest-sums .result) (a .charged .result)
-    (ready-is (s .args .image .now) (s .args .c) (b .board .result) (t .table .result) (s .pre) (b .board .ensures) (t .table .ensures))
-    (a .before .steepest-sums .ensures)
-    (a .charged .ensures)
+stopped-requires : tie.Need-stopped-requires
+stopped-requires c κs = search needs
 
 returns : tie.Need-returns
 returns c = search needs
 
+stretches-requires : tie.Need-stretches-requires
+stretches-requires c κs = search needs
+
+fits : (c : tie.Else1) → conductancesFit (c .before .before .args .parts) plain ≡ true
+fits c = sym (c .before .conductances-fit .ensures) ∙ not-false _ (c .if1 .left)
+
+board-requires : tie.Need-board-requires
+board-requires c κs = (c .before .before .before .before .before .pre, fits (c .before .before .before), c .before .stretches2 .ensures)
+
+charged-requires : tie.Need-charged-requires
+charged-requires c κs = search needs
+
+first : (c : tie.After-charged) → Playable (c .before .board .result) (c .before .before .before .stretches2 .last .1 .0) (c .charged .result)
+first c =
+    let s = c .before .before .before .before .before .before .before in
+    first-playable (s .args .parts) _ _ _ (s .pre) (fits (c .before .before .before .before .before)) (c .before .board .ensures) (c .before .before .before .stretches2 .ensures) (c .charged .ensures)
+
+once-requires : tie.Need-once-requires
+once-requires c κs = first (c .before .before .before .before)
+
+samples-requires : tie.Need-samples-requires
+samples-requires c κs = first (c .before .before .before .before)
+
 returns-2 : tie.Need-returns-2
 returns-2 c = search needs
+
+returns-3 : tie.Need-returns-3
+returns-3 c = search needs
 
 pub opened-spec : {M : Type 1} → statement M
 opened-spec =
     tie.close
-    (tie.spec board-requires table-requires steepest-sums-requires charged-requires once-requires samples-requires returns returns-2)
+    (tie.spec
+    conductances-fit-requires
+    value-requires
+    stopped-requires
+    returns
+    stretches-requires
+    board-requires
+    charged-requires
+    once-requires
+    samples-requires
+    returns-2
+    returns-3)

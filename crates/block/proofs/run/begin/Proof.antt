@@ -16,9 +16,9 @@ driven-requires c κs = search needs
 
 place-requires : tie.Need-place-requires
 place-requires c κs =
-    let s = c .before .before .before .before .before .before in
+    let s = c .before .before .before .before .before in
     let e = c .before .driven .ensures in
-    let n = s .pre .0 .ready .limits in
+    let n = s .pre .0 .ready .laid .limits in
     let k = c .before .before .copied .ensures in
     (omega (arith, e, n .few-nodes, n .wired .driven-there), omega (arith, s .pre .1 .few), rw e (omega (arith, s .pre .1 .there)), ap length (k .0) ∙ k .1)
 
@@ -27,7 +27,7 @@ propose-requires c κs = search needs
 
 returns : tie.Need-returns
 returns c i h =
-    let s = c .before .before .before .before .before .before .before .before .before in
+    let s = c .before .before .before .before .before .before .before .before in
     let e = c .before .before .before .before .driven .ensures in
     let placed : Placed (s .args .drives .now) (drivenOn (s .args .board .now)) (s .args .j) (drivenOn (s .args .board .now)) _ _ = rw e at (c .before .before .place .ensures) in
     c .propose .ensures .fixed (suc i) (omega (arith, h)) ∙ placed .at i h

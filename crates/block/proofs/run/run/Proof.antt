@@ -6,47 +6,56 @@ use mir.Val.{toZ, ofZ}
 use Rattle.network.specs.Network.{reading}
 use Rattle.circuit.specs.Board.{drivenOn, networkOn}
 use Rattle.block.specs.Block.{driveAt, Run, start, sample}
-use Rattle.block.specs.Playing.{Playing, Ran, all, short}
-use Rattle.block.proofs.SampleLaws.{playing-on, passed-is, refused-is, number-small, run-length, run-more, run-short, driven-there}
+use Rattle.units.specs.Number.{numberOf}
+use Rattle.units.proofs.Numbers.{number-small}
+use Rattle.solve.specs.Sample.{Playable}
+use Rattle.block.specs.Playing.{stateOf, Ran, all, short}
+use Rattle.block.proofs.SampleLaws.{playable-on, passed-is, refused-is, run-length, run-more, run-short, driven-there}
 use borrow.Author.Needs.{needs}
 use Rattle.block.proofs.run.run.Statement.{statement}
 use Rattle.block.proofs.run.run.Tie as tie
 
 abbrev Inv-loop : tie.InvT-loop
-Inv-loop image board lines steep output n drives x₀ volts₀ outputs₀ j₀ x volts outputs j = (j ≤ n) × Run (networkOn image board) output (driveAt drives (drivenOn board)) x₀ outputs₀ j x outputs × Playing image board lines x steep
+Inv-loop board stretches output n drives x₀ volts₀ outputs₀ j₀ x volts outputs j = (j ≤ n) × Run (λ (j : ℕ). networkOn board stretches) output (driveAt drives (drivenOn board)) (stateOf x₀) outputs₀ j (stateOf x) outputs × Playable board stretches x
 
 abbrev μ-loop : tie.MeasureT-loop
-μ-loop image board lines steep output n drives x₀ volts₀ outputs₀ j₀ x volts outputs j = n - j
+μ-loop board stretches output n drives x₀ volts₀ outputs₀ j₀ x volts outputs j = n - j
 
 loop-holds : tie.Need-loop-holds Inv-loop μ-loop
 loop-holds c =
-    let s = c .before .before .before in
+    let s = c .before .before in
     (omega arith, start, s .pre .0)
 
 next-requires : tie.Need-next-requires Inv-loop μ-loop
 next-requires c κs =
     let l = c .before .before .before .loop in
-    let s = c .before .before .before .before .before .before .before in
+    let s = c .before .before .before .before .before .before in
     let a = s .args in
     (l .inv .2, driven-there (a .board .now) (a .drives .now) (a .outputs .now) (a .output) (a .n) (l .j) (s .pre .1) (c .before .before .loop-test .taken))
 
+value-requires : tie.Need-value-requires Inv-loop μ-loop
+value-requires c κs = search needs
+
+-- the number of a sample that was refused, and of one that was not
+some : (c : tie.Then1 Inv-loop μ-loop) → numberOf (c .before .before .next .result) ≡ 0 → ⊥
+some c e = c .if1 .taken (c .before .value .ensures ∙ e)
+
+none : (c : tie.Else1 Inv-loop μ-loop) → numberOf (c .before .before .next .result) ≡ 0
+none c = sym (c .before .value .ensures) ∙ c .if1 .left
+
 mul-result : tie.Need-mul-result Inv-loop μ-loop
-mul-result c =
-    let q = refused-is (c .before .next .ensures) (c .if1 .taken) in
-    omega (arith, q .is, number-small (q .outcome))
+mul-result c = record { fits = omega (arith, c .before .value .ensures, number-small (c .before .before .next .result)) }
 
 add-result : tie.Need-add-result Inv-loop μ-loop
-add-result c =
-    let q = refused-is (c .before .next .ensures) (c .if1 .taken) in
-    omega (arith, q .is, number-small (q .outcome), c .before .before .before .before .before .before .before .before .before .pre .1 .few, c .before .before .before .before .loop-test .taken)
+add-result c = record { fits = omega (arith, c .before .value .ensures, number-small (c .before .before .next .result), c .before .before .before .before .before .before .before .before .before .pre .1 .few, c .before .before .before .before .before .loop-test .taken) }
 
 same-length : tie.Need-same-length Inv-loop μ-loop
-same-length c = run-length (c .before .before .before .before .before .loop .inv .1)
+same-length c = run-length (c .before .before .before .before .before .before .loop .inv .1)
 
 returns : tie.Need-returns Inv-loop μ-loop
 returns c =
-    let q = refused-is (c .before .next .ensures) (c .if1 .taken) in
-    run-short (c .before .before .before .before .before .loop .inv .1) (c .before .before .before .before .loop-test .taken) q
+    let q = refused-is (c .before .before .next .ensures) (some c) in
+    rw (c .before .value .ensures) (run-short (c .before .before .before .before .before .before .loop .inv .1) (c .before .before .before .before .before .loop-test .taken) q)
 
 mul-put-i32 : tie.Need-mul-put-i32 Inv-loop μ-loop
 mul-put-i32 c = search needs
@@ -59,8 +68,8 @@ element-copy-out-put-i32 c = search needs
 
 put-i32-requires : tie.Need-put-i32-requires Inv-loop μ-loop
 put-i32-requires c κs =
-    let l = c .before .before .before .before .before .before .before .loop in
-    omega (arith, run-length (l .inv .1), c .before .before .before .before .before .before .before .before .before .before .before .pre .1 .written, c .before .before .before .before .before .before .loop-test .taken)
+    let l = c .before .before .before .before .before .before .before .before .loop in
+    omega (arith, run-length (l .inv .1), c .before .before .before .before .before .before .before .before .before .before .before .pre .1 .room, c .before .before .before .before .before .before .before .loop-test .taken)
 
 add-j : tie.Need-add-j Inv-loop μ-loop
 add-j c = search needs
@@ -70,12 +79,14 @@ loop-less c = search needs
 
 loop-again : tie.Need-loop-again Inv-loop μ-loop
 loop-again c =
-    let l = c .before .before .before .before .before .before .before .before .before .before .loop in
-    let v = c .before .before .before .before .before .before .next .last .1 .1 .1 .1 .1 .1 .1 .0 in
-    let z = reading v (c .before .before .before .before .before .before .before .before .before .before .before .before .before .before .args .output) in
-    let e : toZ w64 (ofZ w64 z) ≡ z = search needs in
-    let q = passed-is (c .before .before .before .before .before .before .next .ensures) (c .before .before .before .before .before .if1 .left) in
-    (omega (arith, c .before .before .before .before .before .before .before .before .before .loop-test .taken), rw ((rw e at (c .before .before .put-i32 .ensures))) (run-more (l .inv .1) q), playing-on _ _ _ _ _ _ _ _ (l .inv .2) (q .gives) (q .long))
+    let e = c .before .before .before .before .before in
+    let n = e .before .before in
+    let l = n .before .before .before .before .loop in
+    let v = n .next .last .1 .1 .1 .1 .1 .0 in
+    let z = reading v (n .before .before .before .before .before .before .before .args .output) in
+    let f : toZ w64 (ofZ w64 z) ≡ z = search needs in
+    let q = passed-is (n .next .ensures) (none e) in
+    (omega (arith, n .before .before .before .loop-test .taken), rw ((rw f at (c .before .before .put-i32 .ensures))) (run-more (l .inv .1) q), playable-on (l .inv .2) q)
 
 same-length-2 : tie.Need-same-length-2 Inv-loop μ-loop
 same-length-2 c = run-length (c .before .loop .inv .1)
@@ -83,7 +94,7 @@ same-length-2 c = run-length (c .before .loop .inv .1)
 returns-2 : tie.Need-returns-2 Inv-loop μ-loop
 returns-2 c =
     let l = c .before .loop in
-    let n = c .before .before .before .before .before .args .n in
+    let n = c .before .before .before .before .args .n in
     let e : l .j ≡ n = omega (arith, l .inv .0) in
     rw e (all (rw e at (l .inv .1)))
 
@@ -95,6 +106,7 @@ run-spec =
     μ-loop
     loop-holds
     next-requires
+    value-requires
     mul-result
     add-result
     same-length

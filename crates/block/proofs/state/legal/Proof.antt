@@ -18,23 +18,23 @@ use Rattle.block.proofs.state.legal.Statement.{statement}
 use Rattle.block.proofs.state.legal.Tie as tie
 
 abbrev Inv-loop : tie.InvT-loop
-Inv-loop image board x j₀ j = (j ≤ 32) × LegalTo board x j
+Inv-loop board x j₀ j = (j ≤ 32) × LegalTo board x j
 
 abbrev μ-loop : tie.MeasureT-loop
-μ-loop image board x j₀ j = 32 - j
+μ-loop board x j₀ j = 32 - j
 
 -- the test's word on stored current j
-test : (c : tie.After-legal-at Inv-loop μ-loop) → Decides (c .legal-at .result) (LegalAt (kindOn (c .before .before .before .before .before .before .args .board .now) (c .before .before .before .before .loop .j)) (reading (c .before .before .before .before .before .before .args .x .now) (c .before .before .before .before .loop .j)))
+test : (c : tie.After-legal-at Inv-loop μ-loop) → Decides (c .legal-at .result) (LegalAt (kindOn (c .before .before .before .before .before .args .board .now) (c .before .before .before .before .loop .j)) (reading (c .before .before .before .before .before .args .x .now) (c .before .before .before .before .loop .j)))
 test c =
-    let s = c .before .before .before .before .before .before in
+    let s = c .before .before .before .before .before in
     let z = reading (s .args .x .now) (c .before .before .before .before .loop .j) in
     let e : toZ w64 (ofZ w64 z) ≡ z = search needs in
     rw (e, c .before .before .kind .ensures) at (c .legal-at .ensures)
 
-given : (c : tie.After-legal-at Inv-loop μ-loop) → c .legal-at .result ≡ true → LegalAt (kindOn (c .before .before .before .before .before .before .args .board .now) (c .before .before .before .before .loop .j)) (reading (c .before .before .before .before .before .before .args .x .now) (c .before .before .before .before .loop .j))
+given : (c : tie.After-legal-at Inv-loop μ-loop) → c .legal-at .result ≡ true → LegalAt (kindOn (c .before .before .before .before .before .args .board .now) (c .before .before .before .before .loop .j)) (reading (c .before .before .before .before .before .args .x .now) (c .before .before .before .before .loop .j))
 given c e = rw e at (test c)
 
-refuted : (c : tie.After-legal-at Inv-loop μ-loop) → c .legal-at .result ≡ false → LegalAt (kindOn (c .before .before .before .before .before .before .args .board .now) (c .before .before .before .before .loop .j)) (reading (c .before .before .before .before .before .before .args .x .now) (c .before .before .before .before .loop .j)) → ⊥
+refuted : (c : tie.After-legal-at Inv-loop μ-loop) → c .legal-at .result ≡ false → LegalAt (kindOn (c .before .before .before .before .before .args .board .now) (c .before .before .before .before .loop .j)) (reading (c .before .before .before .before .before .args .x .now) (c .before .before .before .before .loop .j)) → ⊥
 refuted c e = rw e at (test c)
 
 loop-holds : tie.Need-loop-holds Inv-loop μ-loop
@@ -53,11 +53,11 @@ legal-at-requires : tie.Need-legal-at-requires Inv-loop μ-loop
 legal-at-requires c κs = search needs
 
 returns : tie.Need-returns Inv-loop μ-loop
-returns c = λ legal.
+returns c = λ stretches legal.
     let d = c .before in
-    let s = d .before .before .before .before .before .before in
+    let s = d .before .before .before .before .before in
     let l = d .before .before .before .before .loop in
-    refuted d (not-true _ (c .if1 .taken)) (legal-at (s .args .image .now) (s .args .board .now) (s .args .x .now) (l .j) (omega (arith, d .before .before .before .loop-test .taken)) legal)
+    refuted d (not-true _ (c .if1 .taken)) (legal-at (s .args .board .now) stretches (s .args .x .now) (l .j) (omega (arith, d .before .before .before .loop-test .taken)) legal)
 
 add-j : tie.Need-add-j Inv-loop μ-loop
 add-j c = search needs
@@ -68,15 +68,15 @@ loop-less c = search needs
 loop-again : tie.Need-loop-again Inv-loop μ-loop
 loop-again c =
     let d = c .before in
-    let s = d .before .before .before .before .before .before in
+    let s = d .before .before .before .before .before in
     (omega (arith, d .before .before .before .loop-test .taken), below-more (λ (j : ℕ). LegalAt (kindOn (s .args .board .now) j) (reading (s .args .x .now) j)) _ (d .before .before .before .before .loop .inv .1) (given d (not-false _ (c .if1 .left))))
 
 returns-2 : tie.Need-returns-2 Inv-loop μ-loop
-returns-2 c =
-    let s = c .before .before .before in
+returns-2 c stretches =
+    let s = c .before .before in
     let l = c .before .loop in
     let e : l .j ≡ 32 = omega (arith, l .inv .0) in
-    legal-all (s .args .image .now) (s .args .board .now) (s .args .x .now) (s .pre) (rw e at (l .inv .1))
+    legal-all (s .args .board .now) stretches (s .args .x .now) (s .pre) (rw e at (l .inv .1))
 
 pub legal-spec : {M : Type 1} → statement M
 legal-spec =

@@ -9,13 +9,13 @@ use mir.Val.{toZ, ofZ}
 use mir.Facts.{toZ-ofZ}
 use borrow.Author.Needs.{needs}
 use Rattle.network.specs.Network.{reading}
-use Rattle.block.specs.Call.{stateWith}
+use Rattle.block.specs.Call.{bytesWith}
 use Rattle.block.proofs.StateLaws.{write-none, write-more, write-length}
 use Rattle.block.proofs.state.write.Statement.{statement}
 use Rattle.block.proofs.state.write.Tie as tie
 
 abbrev Inv-loop : tie.InvT-loop
-Inv-loop state₀ x j₀ state j = (j ≤ 32) × (state ≡ stateWith state₀ x j)
+Inv-loop state₀ x j₀ state j = (j ≤ 32) × (state ≡ bytesWith state₀ x j)
 
 abbrev μ-loop : tie.MeasureT-loop
 μ-loop state₀ x j₀ state j = 32 - j

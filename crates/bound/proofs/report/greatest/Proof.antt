@@ -18,8 +18,8 @@ returns c = inr (rw (c .before .b .given .1) at (c .before .before .before .leas
 
 returns-2 : tie.Need-returns-2
 returns-2 c =
-    let s = c .before .before .before .before in
-    greatest-none (s .args .image .now) (s .args .board .now) (s .pre .limits) (rw (c .enum-told .given .1) at (c .before .before .least .ensures))
+    let s = c .before .before .before in
+    greatest-none (s .args .board .now) (s .args .stretches .now) (s .pre .limits) (rw (c .enum-told .given .1) at (c .before .before .least .ensures))
 
 pub greatest-spec : {M : Type 1} → statement M
 greatest-spec = tie.close (tie.spec least-requires enum-known-b enum-told returns returns-2)

@@ -1,7 +1,11 @@
-use mathlib.Core.Path.{sym, _∙_}
+use mathlib.Core.Path.{_≡_}
+use mathlib.Core.List.{[], _∷_}
 use native.Mathlib.Omega.{arith}
-use Rattle.console.proofs.TextLaws.{adds-then}
-use Rattle.bound.proofs.ReportLaws.{accepted-sound, accepted-answered, refused-answered}
+use types.Run.{miss}
+use Rattle.image.specs.Format.{openingOf}
+use Rattle.image.proofs.Promise.{read-opening, read-sound}
+use Rattle.units.specs.declared.number.Number.the-variants.{Done}
+use Rattle.bound.proofs.ReportLaws.{refused-answered}
 use borrow.Author.Needs.{needs}
 use Rattle.bound.proofs.report.put.Statement.{statement}
 use Rattle.bound.proofs.report.put.Tie as tie
@@ -9,14 +13,17 @@ use Rattle.bound.proofs.report.put.Tie as tie
 read-requires : tie.Need-read-requires
 read-requires c κs = search needs
 
-number-of-requires : tie.Need-number-of-requires
-number-of-requires c κs = search needs
+enum-told : tie.Need-enum-told
+enum-told c = search needs
 
-put-report-requires : tie.Need-put-report-requires
-put-report-requires c κs =
+put-judged-requires : tie.Need-put-judged-requires
+put-judged-requires c κs =
     let s = c .before .before .before .before .before .before in
     let r = c .before .before .before .read in
-    (accepted-sound (s .args .image .now) (r .result) (r .ensures) (sym (c .before .before .number-of .ensures) ∙ c .before .if1 .taken), s .pre)
+    (read-sound (s .args .image .now) (r .result) (r .ensures) (c .before .enum-told .given .1), s .pre)
+
+put-refused-requires : tie.Need-put-refused-requires
+put-refused-requires c κs = search needs
 
 same-length : tie.Need-same-length
 same-length c = search needs
@@ -25,50 +32,30 @@ returns : tie.Need-returns
 returns c =
     let s = c .before .before .before .before .before .before .before .before .before in
     let r = c .before .before .before .before .before .before .read in
-    let p = c .before .before .put-report in
-    (accepted-answered (s .args .image .now) (r .result) _ (r .ensures) (sym (c .before .before .before .before .before .number-of .ensures) ∙ c .before .before .before .before .if1 .taken) (p .ensures .0), omega (arith, p .ensures .1, s .pre, p .kept .0))
-
-slice-aggregate-put-word : tie.Need-slice-aggregate-put-word
-slice-aggregate-put-word c = search needs
-
-put-word-requires : tie.Need-put-word-requires
-put-word-requires c κs = search needs
-
-put-decimal-requires : tie.Need-put-decimal-requires
-put-decimal-requires c κs = search needs
-
-slice-aggregate-put-word-2 : tie.Need-slice-aggregate-put-word-2
-slice-aggregate-put-word-2 c = search needs
-
-put-word-requires-2 : tie.Need-put-word-requires-2
-put-word-requires-2 c κs = search needs
+    let p = c .before .before .put-judged in
+    (rw (read-opening (s .args .image .now) (r .result) (r .ensures) (c .before .before .before .before .enum-told .given .1)) (p .ensures .0), omega (arith, p .ensures .1, s .pre, p .kept .0))
 
 same-length-2 : tie.Need-same-length-2
 same-length-2 c = search needs
 
+-- the arm of `_` is told the places of all variants but the first
 returns-2 : tie.Need-returns-2
 returns-2 c =
-    let s = c .before .before .before .before .before .before .before .before .before .before .before .before .before .before .before .before .before .before .before in
-    let r = c .before .before .before .before .before .before .before .before .before .before .before .before .before .before .before .before .read in
-    let n = c .before .before .before .before .before .before .before .before .before .before .before .before .before .before .before .number-of .ensures in
-    let digits = rw n at (c .before .before .before .before .before .before .before .put-decimal .ensures) in
-    let last = c .before .before .put-word2 in
-    let t = adds-then (adds-then (c .before .before .before .before .before .before .before .before .before .before .before .put-word .ensures) digits) (last .ensures) in
-    (refused-answered (s .args .image .now) (r .result) _ _ _ _ (r .ensures) (λ e. c .before .before .before .before .before .before .before .before .before .before .before .before .before .before .if1 .left (n ∙ e)) t, omega (arith, t .short, t .moved, s .pre, last .kept .0))
+    let s = c .before .before .before .before .before .before .before .before in
+    let r = c .before .before .before .before .before .read in
+    let p = c .before .before .put-refused in
+    let apart : r .result .number ≡ Done → ⊥ = λ e. miss (1 ∷ 2 ∷ 3 ∷ 4 ∷ 5 ∷ 6 ∷ 7 ∷ 8 ∷ 9 ∷ 10 ∷ 11 ∷ []) 0 tt (rw e at (c .before .before .before .before .match .keys2)) in
+    (refused-answered (openingOf (s .args .image .now)) (r .result .number) _ (r .ensures .number) apart (p .ensures .0), omega (arith, p .ensures .1, s .pre, p .kept .0))
 
 pub put-spec : {M : Type 1} → statement M
 put-spec =
     tie.close
     (tie.spec
     read-requires
-    number-of-requires
-    put-report-requires
+    enum-told
+    put-judged-requires
+    put-refused-requires
     same-length
     returns
-    slice-aggregate-put-word
-    put-word-requires
-    put-decimal-requires
-    slice-aggregate-put-word-2
-    put-word-requires-2
     same-length-2
     returns-2)

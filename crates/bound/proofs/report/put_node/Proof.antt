@@ -15,8 +15,8 @@ steepest-requires c κs = search needs
 
 rounded-up-requires : tie.Need-rounded-up-requires
 rounded-up-requires c κs =
-    let s = c .before .before .before .before in
-    let N = networkOn (s .args .image .now) (s .args .board .now) in
+    let s = c .before .before .before in
+    let N = networkOn (s .args .board .now) (s .args .stretches .now) in
     let limits = s .pre .0 .limits in
     let held = c .before .held .ensures in
     (omega (arith, held, leak-held N (s .args .i), limits .leaks), omega (arith, held, c .steepest .ensures, held-fits N limits (s .args .i), steepest-fits N limits (s .args .i)))

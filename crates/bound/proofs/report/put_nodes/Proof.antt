@@ -1,5 +1,5 @@
 use mathlib.Core.Path.{_≡_, refl}
-use Prim.Native.Nat.{ℕ, _*_, _-_, _≤_}
+use Prim.Native.Nat.{_*_, _-_, _≤_}
 use native.Mathlib.Omega.{arith}
 use lib.ListN.{length, take}
 use Rattle.circuit.specs.Board.{nodesOn, networkOn}
@@ -10,10 +10,10 @@ use Rattle.bound.proofs.report.put_nodes.Statement.{statement}
 use Rattle.bound.proofs.report.put_nodes.Tie as tie
 
 abbrev Inv-loop : tie.InvT-loop
-Inv-loop text₀ image board lines nodes i₀ end₀ text i end = (i ≤ nodes) × (end ≤ 84 * i) × (length text ≡ length text₀) × Nodes (networkOn image board) i (take end text)
+Inv-loop text₀ board stretches nodes i₀ end₀ text i end = (i ≤ nodes) × (end ≤ 84 * i) × (length text ≡ length text₀) × Nodes (networkOn board stretches) i (take end text)
 
 abbrev μ-loop : tie.MeasureT-loop
-μ-loop text₀ image board lines nodes i₀ end₀ text i end = nodes - i
+μ-loop text₀ board stretches nodes i₀ end₀ text i end = nodes - i
 
 nodes-requires : tie.Need-nodes-requires Inv-loop μ-loop
 nodes-requires c κs = search needs
@@ -23,7 +23,7 @@ driven-requires c κs = search needs
 
 loop-holds : tie.Need-loop-holds Inv-loop μ-loop
 loop-holds c =
-    let s = c .before .before .before .before in
+    let s = c .before .before .before in
     let d = c .driven .ensures in
     (omega (arith, d, c .before .nodes .ensures, s .pre .0 .limits .wired .driven-there), omega arith, refl, rw d none)
 
@@ -32,7 +32,7 @@ add-i c = search needs
 
 put-node-requires : tie.Need-put-node-requires Inv-loop μ-loop
 put-node-requires c κs =
-    let s = c .before .before .before .before .before .before .before in
+    let s = c .before .before .before .before .before .before in
     let l = c .before .before .loop .inv in
     (s .pre .0, omega (arith, l .1, l .2, s .pre .1, s .pre .0 .limits .few-nodes, c .before .before .before .before .nodes .ensures, c .before .loop-test .taken))
 
@@ -50,7 +50,7 @@ same-length c = search needs
 
 returns : tie.Need-returns Inv-loop μ-loop
 returns c =
-    let s = c .before .before .before .before .before .before in
+    let s = c .before .before .before .before .before in
     let l = c .before .loop in
     let n = c .before .before .before .nodes .ensures in
     let e : l .i ≡ nodesOn (s .args .board .now) = omega (arith, n, l .inv .0) in

@@ -1,22 +1,25 @@
 use native.Mathlib.Omega.{arith}
-use Rattle.circuit.proofs.OpeningLaws.{indexed, whole}
+use Rattle.circuit.specs.Board.{Laid}
 use Rattle.console.proofs.TextLaws.{adds-then}
-use Rattle.bound.proofs.ReportLaws.{ready-is, network-of, report-of}
+use Rattle.bound.proofs.ReportLaws.{laid-is, network-of, report-of}
 use borrow.Author.Needs.{needs}
 use Rattle.bound.proofs.report.put_report.Statement.{statement}
 use Rattle.bound.proofs.report.put_report.Tie as tie
 
-board-requires : tie.Need-board-requires
-board-requires c κs = let s = c .before .before in indexed (s .args .image .now) (s .args .c) (s .pre .0)
+stretches-requires : tie.Need-stretches-requires
+stretches-requires c κs = search needs
 
-table-requires : tie.Need-table-requires
-table-requires c κs = let s = c .before .before .before .before .before in λ k h. whole (s .args .image .now) _ (s .pre .0 .start-there k h) (s .pre .0 .start-sound k h)
+board-requires : tie.Need-board-requires
+board-requires c κs = search needs
+
+on-board : (c : tie.After-board) → Laid (c .board .result) (c .before .before .stretches2 .last .1 .0)
+on-board c = let s = c .before .before .before .before .before in laid-is (s .args .parts) _ _ (s .pre .0) (c .board .ensures) (c .before .before .stretches2 .ensures) (s .pre .1)
 
 put-nodes-requires : tie.Need-put-nodes-requires
-put-nodes-requires c κs = let s = c .before .before .before .before .before .before .before .before .before in (ready-is (s .args .image .now) (s .args .c) (c .before .before .before .before .before .before .board .result) (c .before .before .before .table .result) (s .pre .0) (c .before .before .before .before .before .before .board .ensures) (c .before .before .before .table .ensures), omega (arith, s .pre .1))
+put-nodes-requires c κs = (on-board (c .before .before .before), omega (arith, c .before .before .before .before .before .before .before .before .pre .2))
 
 greatest-requires : tie.Need-greatest-requires
-greatest-requires c κs = let s = c .before .before .before .before .before .before .before .before .before .before .before .before .before .before in ready-is (s .args .image .now) (s .args .c) (c .before .before .before .before .before .before .before .before .before .before .before .board .result) (c .before .before .before .before .before .before .before .before .table .result) (s .pre .0) (c .before .before .before .before .before .before .before .before .before .before .before .board .ensures) (c .before .before .before .before .before .before .before .before .table .ensures)
+greatest-requires c κs = on-board (c .before .before .before .before .before .before .before .before)
 
 slice-aggregate-put-word : tie.Need-slice-aggregate-put-word
 slice-aggregate-put-word c = search needs
@@ -38,18 +41,18 @@ same-length c = search needs
 
 returns : tie.Need-returns
 returns c =
-    let s = c .before .before .before .before .before .before .before .before .before .before .before .before .before .before .before .before .before .before .before .before .before .before .before .before .before .before .before .before .before in
+    let b = c .before .before .before .before .before .before .before .before .before .before .before .before .before .before .before .before .before .before .before .before .before .before .before in
+    let s = b .before .before .before .before .before in
     let nodes = c .before .before .before .before .before .before .before .before .before .before .before .before .before .before .before .before .before .before .before .put-nodes .ensures in
-    let most = c .before .before .before .before .before .before .before .before .before .before .before .before .before .before .greatest .ensures in
     let last = adds-then (adds-then (c .before .before .before .before .before .before .before .before .before .before .before .put-word .ensures) (c .before .before .before .before .before .before .before .put-decimal .ensures)) (c .before .before .put-word2 .ensures) in
-    (rw (network-of (s .args .image .now) (s .args .c) (c .before .before .before .before .before .before .before .before .before .before .before .before .before .before .before .before .before .before .before .before .before .before .before .before .before .before .board .result) (s .pre .0) (c .before .before .before .before .before .before .before .before .before .before .before .before .before .before .before .before .before .before .before .before .before .before .before .before .before .before .board .ensures)) at (report-of (nodes .0) most last), omega (arith, nodes .1, last .short, last .moved))
+    (rw (network-of (s .args .parts) _ _ (s .pre .0) (b .board .ensures) (b .before .before .stretches2 .ensures)) at (report-of (nodes .0) (c .before .before .before .before .before .before .before .before .before .before .before .before .before .before .greatest .ensures) last), omega (arith, nodes .1, last .short, last .moved))
 
 pub put-report-spec : {M : Type 1} → statement M
 put-report-spec =
     tie.close
     (tie.spec
+    stretches-requires
     board-requires
-    table-requires
     put-nodes-requires
     greatest-requires
     slice-aggregate-put-word

@@ -18,21 +18,21 @@ use Rattle.circuit.proofs.advance.all_kept.Statement.{statement}
 use Rattle.circuit.proofs.advance.all_kept.Tie as tie
 
 abbrev Inv-loop : tie.InvT-loop
-Inv-loop image board lines volts stored count j₀ j = (j ≤ count) × ((i : ℕ) → i < j → Within storedLimit (next (networkOn image board) (reading stored) (reading volts) i))
+Inv-loop board stretches volts stored count j₀ j = (j ≤ count) × ((i : ℕ) → i < j → Within storedLimit (next (networkOn board stretches) (reading stored) (reading volts) i))
 
 abbrev μ-loop : tie.MeasureT-loop
-μ-loop image board lines volts stored count j₀ j = count - j
+μ-loop board stretches volts stored count j₀ j = count - j
 
 -- the test's word on the new stored current of element j
-tested : (c : tie.After-is-kept Inv-loop μ-loop) → c .is-kept .result ≡ within storedLimit (next (networkOn (c .before .before .before .before .before .before .before .args .image .now) (c .before .before .before .before .before .before .before .args .board .now)) (reading (c .before .before .before .before .before .before .before .args .stored .now)) (reading (c .before .before .before .before .before .before .before .args .volts .now)) (c .before .before .before .before .loop .j))
+tested : (c : tie.After-is-kept Inv-loop μ-loop) → c .is-kept .result ≡ within storedLimit (next (networkOn (c .before .before .before .before .before .before .args .board .now) (c .before .before .before .before .before .before .args .stretches .now)) (reading (c .before .before .before .before .before .before .args .stored .now)) (reading (c .before .before .before .before .before .before .args .volts .now)) (c .before .before .before .before .loop .j))
 tested c =
-    let s = c .before .before .before .before .before .before .before in
+    let s = c .before .before .before .before .before .before in
     let j = c .before .before .before .before .loop .j in
     let z = reading (s .args .stored .now) j in
     let e : toZ w64 (ofZ w64 z) ≡ z = search needs in
     let y = c .before .next .result in
     let f : toZ w64 (ofZ w64 y) ≡ y = search needs in
-    c .is-kept .ensures ∙ ap (within storedLimit) (f ∙ c .before .next .ensures ∙ next-is (s .args .image .now) (s .args .board .now) (s .args .volts .now) (s .args .stored .now) j _ e)
+    c .is-kept .ensures ∙ ap (within storedLimit) (f ∙ c .before .next .ensures ∙ next-is (s .args .board .now) (s .args .stretches .now) (s .args .volts .now) (s .args .stored .now) j _ e)
 
 count-requires : tie.Need-count-requires Inv-loop μ-loop
 count-requires c κs = search needs
@@ -48,11 +48,11 @@ element-copy-out-next c = search needs
 
 next-requires : tie.Need-next-requires Inv-loop μ-loop
 next-requires c κs =
-    let s = c .before .before .before .before .before in
+    let s = c .before .before .before .before in
     let l : c .before .before .loop .j < countOn (s .args .board .now) = omega (arith, c .before .before .before .count .ensures) in
     let z = reading (s .args .stored .now) (c .before .before .loop .j) in
     let e : toZ w64 (ofZ w64 z) ≡ z = search needs in
-    (s .pre .ready, s .pre .ranged, l, rw e (s .pre .kept (c .before .before .loop .j) l))
+    (s .pre .ready .laid, s .pre .ranged, l, rw e (s .pre .kept (c .before .before .loop .j) l))
 
 is-kept-requires : tie.Need-is-kept-requires Inv-loop μ-loop
 is-kept-requires c κs = search needs

@@ -14,13 +14,13 @@ use Rattle.circuit.proofs.bound.least.Statement.{statement}
 use Rattle.circuit.proofs.bound.least.Tie as tie
 
 abbrev Inv-loop : tie.InvT-loop
-Inv-loop image board lines e nodes i₀ most₀ i most = (drivenOn board ≤ i) × (i ≤ nodes) × UpTo image board e i most
+Inv-loop board stretches e nodes i₀ most₀ i most = (drivenOn board ≤ i) × (i ≤ nodes) × UpTo board stretches e i most
 
 abbrev μ-loop : tie.MeasureT-loop
-μ-loop image board lines e nodes i₀ most₀ i most = nodes - i
+μ-loop board stretches e nodes i₀ most₀ i most = nodes - i
 
 -- what was found at node i + 1
-found : (c : tie.After-at-node Inv-loop μ-loop) → AtNode (steepest (networkOn (c .before .before .before .before .before .before .before .before .before .args .image .now) (c .before .before .before .before .before .before .before .before .before .args .board .now)) (c .before .before .before .before .loop .i + 1)) (held (networkOn (c .before .before .before .before .before .before .before .before .before .args .image .now) (c .before .before .before .before .before .before .before .before .before .args .board .now)) (c .before .before .before .before .loop .i + 1)) (c .before .before .before .before .before .before .before .before .before .args .e) (c .at-node .result)
+found : (c : tie.After-at-node Inv-loop μ-loop) → AtNode (steepest (networkOn (c .before .before .before .before .before .before .before .before .args .board .now) (c .before .before .before .before .before .before .before .before .args .stretches .now)) (c .before .before .before .before .loop .i + 1)) (held (networkOn (c .before .before .before .before .before .before .before .before .args .board .now) (c .before .before .before .before .before .before .before .before .args .stretches .now)) (c .before .before .before .before .loop .i + 1)) (c .before .before .before .before .before .before .before .before .args .e) (c .at-node .result)
 found c = rw (c .before .before .steepest .ensures, c .before .held .ensures) at (c .at-node .ensures)
 
 nodes-requires : tie.Need-nodes-requires Inv-loop μ-loop
@@ -34,7 +34,7 @@ returns c = inl (sym (c .before .driven .ensures) ∙ c .if1 .taken ∙ c .befor
 
 loop-holds : tie.Need-loop-holds Inv-loop μ-loop
 loop-holds c =
-    let s = c .before .before .before .before in
+    let s = c .before .before .before in
     let d = c .before .driven .ensures in
     (omega (arith, d), omega (arith, d, c .before .before .nodes .ensures, s .pre .limits .wired .driven-there), rw d (up-to-none _ _ _))
 
@@ -49,8 +49,8 @@ held-requires c κs = search needs
 
 at-node-requires : tie.Need-at-node-requires Inv-loop μ-loop
 at-node-requires c κs =
-    let s = c .before .before .before .before .before .before .before .before in
-    let N = networkOn (s .args .image .now) (s .args .board .now) in
+    let s = c .before .before .before .before .before .before .before in
+    let N = networkOn (s .args .board .now) (s .args .stretches .now) in
     let i = c .before .before .before .loop .i + 1 in
     let h = c .held .ensures in (
       omega (arith, h, leak-held N i, s .pre .limits .leaks),
@@ -77,11 +77,11 @@ loop-less c = search needs
 loop-again : tie.Need-loop-again Inv-loop μ-loop
 loop-again c =
     let a = c .before .before .before .before in
-    let s = a .before .before .before .before .before .before .before .before .before in
+    let s = a .before .before .before .before .before .before .before .before in
     let l = a .before .before .before .before .loop in
     let n = c .before .before .b .given .0 .0 in
     let f = rw (c .before .before .b .given .1) at (found a) in
-    (omega (arith, l .inv), omega (arith, a .before .before .before .loop-test .taken), up-to-more (s .args .image .now) (s .args .board .now) (s .args .e) (l .i) (l .most) n n (omega (arith, l .inv)) (l .inv .2) (f .0) (f .1) (omega arith) (omega arith) (λ k x y. y))
+    (omega (arith, l .inv), omega (arith, a .before .before .before .loop-test .taken), up-to-more (s .args .board .now) (s .args .stretches .now) (s .args .e) (l .i) (l .most) n n (omega (arith, l .inv)) (l .inv .2) (f .0) (f .1) (omega arith) (omega arith) (λ k x y. y))
 
 loop-less-2 : tie.Need-loop-less-2 Inv-loop μ-loop
 loop-less-2 c = search needs
@@ -89,15 +89,15 @@ loop-less-2 c = search needs
 loop-again-2 : tie.Need-loop-again-2 Inv-loop μ-loop
 loop-again-2 c =
     let a = c .before .before .before .before in
-    let s = a .before .before .before .before .before .before .before .before .before in
+    let s = a .before .before .before .before .before .before .before .before in
     let l = a .before .before .before .before .loop in
     let n = c .before .before .b .given .0 .0 in
     let f = rw (c .before .before .b .given .1) at (found a) in
-    (omega (arith, l .inv), omega (arith, a .before .before .before .loop-test .taken), up-to-more (s .args .image .now) (s .args .board .now) (s .args .e) (l .i) (l .most) n (l .most) (omega (arith, l .inv)) (l .inv .2) (f .0) (f .1) (omega arith) (omega arith) (λ k x y. x))
+    (omega (arith, l .inv), omega (arith, a .before .before .before .loop-test .taken), up-to-more (s .args .board .now) (s .args .stretches .now) (s .args .e) (l .i) (l .most) n (l .most) (omega (arith, l .inv)) (l .inv .2) (f .0) (f .1) (omega arith) (omega arith) (λ k x y. x))
 
 returns-3 : tie.Need-returns-3 Inv-loop μ-loop
 returns-3 c =
-    let s = c .before .before .before .before .before .before in
+    let s = c .before .before .before .before .before in
     let l = c .before .loop in
     let d = c .before .before .before .driven .ensures in
     let n = c .before .before .before .before .nodes .ensures in

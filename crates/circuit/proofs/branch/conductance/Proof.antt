@@ -1,24 +1,22 @@
-use mathlib.Core.Path.{_≡_, sym, _∙_, ap}
-use native.Mathlib.Omega.{arith}
+use mathlib.Core.Path.{_≡_, sym, _∙_}
 use borrow.Author.Needs.{needs}
-use Rattle.circuit.proofs.BoardLaws.{diode-conductance, other-conductance}
 use Rattle.circuit.proofs.branch.conductance.Statement.{statement}
 use Rattle.circuit.proofs.branch.conductance.Tie as tie
 
 kind-requires : tie.Need-kind-requires
 kind-requires c κs = search needs
 
-returns : tie.Need-returns
-returns c = let s = c .before .before .before in diode-conductance (s .args .image .now) (s .args .board .now) (s .args .j) (sym (c .before .kind .ensures) ∙ c .if1 .taken)
+has-curve-requires : tie.Need-has-curve-requires
+has-curve-requires c κs = search needs
 
-value-requires : tie.Need-value-requires
-value-requires c κs = search needs
+returns : tie.Need-returns
+returns c = rw (rw (c .before .before .kind .ensures) at (sym (c .before .has-curve .ensures) ∙ c .if1 .taken))
+
+conductance-requires : tie.Need-conductance-requires
+conductance-requires c κs = search needs
 
 returns-2 : tie.Need-returns-2
-returns-2 c =
-    let k = c .before in
-    let s = k .before .before .before in
-    c .value .ensures ∙ other-conductance (s .args .image .now) (s .args .board .now) (s .args .j) (λ e. k .if1 .left (k .before .kind .ensures ∙ e))
+returns-2 c = let k = c .before in rw (rw (k .before .before .kind .ensures) at (sym (k .before .has-curve .ensures) ∙ k .if1 .left)) (c .conductance .ensures)
 
 pub conductance-spec : {M : Type 1} → statement M
-conductance-spec = tie.close (tie.spec kind-requires returns value-requires returns-2)
+conductance-spec = tie.close (tie.spec kind-requires has-curve-requires returns conductance-requires returns-2)

@@ -10,7 +10,7 @@ use Rattle.circuit.proofs.branch.leaving.Statement.{statement}
 use Rattle.circuit.proofs.branch.leaving.Tie as tie
 
 -- the element's current, as a number with a sign
-at-flow : (c : tie.After-flow2) → toZ w64 (ofZ w64 (c .flow2 .result)) ≡ flowOn (c .before .before .before .before .before .args .image .now) (c .before .before .before .before .before .args .board .now) (c .before .before .before .before .before .args .stored .now) (c .before .before .before .before .before .args .volts .now) (c .before .before .before .before .before .args .j)
+at-flow : (c : tie.After-flow2) → toZ w64 (ofZ w64 (c .flow2 .result)) ≡ flowOn (c .before .before .before .before .args .board .now) (c .before .before .before .before .args .stretches .now) (c .before .before .before .before .args .stored .now) (c .before .before .before .before .args .volts .now) (c .before .before .before .before .args .j)
 at-flow c =
     let e : toZ w64 (ofZ w64 (c .flow2 .result)) ≡ c .flow2 .result = search needs in
     e ∙ c .flow2 .ensures
@@ -31,7 +31,7 @@ flow-requires-2 : tie.Need-flow-requires-2
 flow-requires-2 c κs = search needs
 
 minus-requires : tie.Need-minus-requires
-minus-requires c κs = let s = c .before .before .before .before .before in rw (at-flow c) (omega (arith, flow-fits _ _ _ _ _ (s .pre .0) (s .args .j) (s .pre .1)))
+minus-requires c κs = let s = c .before .before .before .before in rw (at-flow c) (omega (arith, flow-fits _ _ _ _ (s .pre .0) (s .args .j) (s .pre .1)))
 
 enum-told-3 : tie.Need-enum-told-3
 enum-told-3 c = search needs
@@ -39,21 +39,21 @@ enum-told-3 c = search needs
 returns : tie.Need-returns
 returns c =
     let a = c .before .before .before in
-    let s = a .before .before in
+    let s = a .before in
     let e : toZ w64 (ofZ w64 (c .flow .result)) ≡ c .flow .result = search needs in
-    e ∙ c .flow .ensures ∙ leaving-p (s .args .image .now) (s .args .board .now) (s .args .stored .now) (s .args .volts .now) (s .args .j) (s .args .node) (sym (c .before .enum-told .given .1) ∙ a .end-at .ensures)
+    e ∙ c .flow .ensures ∙ leaving-p (s .args .board .now) (s .args .stretches .now) (s .args .stored .now) (s .args .volts .now) (s .args .j) (s .args .node) (sym (c .before .enum-told .given .1) ∙ a .end-at .ensures)
 
 returns-2 : tie.Need-returns-2
 returns-2 c =
     let a = c .before .before .before .before in
-    let s = a .before .before in
+    let s = a .before in
     let e : toZ w64 (ofZ w64 (c .minus .result)) ≡ c .minus .result = search needs in
-    e ∙ (rw (at-flow (c .before)) at (c .minus .ensures)) ∙ +ℤ-idl _ ∙ leaving-q (s .args .image .now) (s .args .board .now) (s .args .stored .now) (s .args .volts .now) (s .args .j) (s .args .node) (sym (c .before .before .enum-told2 .given .1) ∙ a .end-at .ensures)
+    e ∙ (rw (at-flow (c .before)) at (c .minus .ensures)) ∙ +ℤ-idl _ ∙ leaving-q (s .args .board .now) (s .args .stretches .now) (s .args .stored .now) (s .args .volts .now) (s .args .j) (s .args .node) (sym (c .before .before .enum-told2 .given .1) ∙ a .end-at .ensures)
 
 returns-3 : tie.Need-returns-3
 returns-3 c =
-    let s = c .before .before .before .before in
-    leaving-neither (s .args .image .now) (s .args .board .now) (s .args .stored .now) (s .args .volts .now) (s .args .j) (s .args .node) (sym (c .enum-told3 .given .1) ∙ c .before .before .end-at .ensures)
+    let s = c .before .before .before in
+    leaving-neither (s .args .board .now) (s .args .stretches .now) (s .args .stored .now) (s .args .volts .now) (s .args .j) (s .args .node) (sym (c .enum-told3 .given .1) ∙ c .before .before .end-at .ensures)
 
 pub leaving-spec : {M : Type 1} → statement M
 leaving-spec =

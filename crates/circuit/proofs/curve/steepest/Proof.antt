@@ -5,33 +5,33 @@ use native.Mathlib.Numerals.{add-one}
 use lib.ListN.{length, getD, drop}
 use borrow.Author.Needs.{needs}
 use Rattle.network.specs.Network.{greatest}
-use Rattle.image.specs.Curve.{slopeOf, slopesOf}
-use Rattle.circuit.proofs.Tables.{slopes-length, slope-at, greatest-none, greatest-more}
+use Rattle.circuit.specs.Stretch.{slopesIn}
+use Rattle.circuit.proofs.CurveLaws.{greatest-none, greatest-more}
 use Rattle.circuit.proofs.curve.steepest.Statement.{statement}
 use Rattle.circuit.proofs.curve.steepest.Tie as tie
 
 abbrev Inv-loop : tie.InvT-loop
-Inv-loop curve i₀ most₀ i most = (i ≤ suc (getD curve 0 0)) × (most ≡ greatest (drop i (slopesOf curve)))
+Inv-loop stretches first m i₀ most₀ i most = (i ≤ suc m) × (most ≡ greatest (drop i (slopesIn stretches first m)))
 
 abbrev μ-loop : tie.MeasureT-loop
-μ-loop curve i₀ most₀ i most = i
-
-breakpoint-count-requires : tie.Need-breakpoint-count-requires Inv-loop μ-loop
-breakpoint-count-requires c κs = search needs
+μ-loop stretches first m i₀ most₀ i most = i
 
 add-i : tie.Need-add-i Inv-loop μ-loop
 add-i c = search needs
 
 loop-holds : tie.Need-loop-holds Inv-loop μ-loop
 loop-holds c =
-    let e : 1 + c .breakpoint-count .result ≡ suc (getD (c .before .before .args .curve .now) 0 0) = omega (arith, c .breakpoint-count .ensures .0) in
-    (omega arith, greatest-none _ _ e)
+    let e : 1 + c .args .m ≡ suc (c .args .m) = omega arith in
+    (omega arith, greatest-none (c .args .stretches .now) (c .args .first) (c .args .m) _ e)
 
 sub-i : tie.Need-sub-i Inv-loop μ-loop
 sub-i c = search needs
 
+add-slope : tie.Need-add-slope Inv-loop μ-loop
+add-slope c = search needs
+
 slope-requires : tie.Need-slope-requires Inv-loop μ-loop
-slope-requires c κs = let s = c .before .before .before .before in omega (arith, s .pre)
+slope-requires c κs = search needs
 
 larger-requires : tie.Need-larger-requires Inv-loop μ-loop
 larger-requires c κs = search needs
@@ -43,9 +43,9 @@ loop-again : tie.Need-loop-again Inv-loop μ-loop
 loop-again c =
     let l = c .before .before .before .loop in
     let t = c .before .before .loop-test .taken in
-    let s = c .before .before .before .before .before .before in
+    let s = c .before .before .before .before in
     let e : suc (l .i - 1) ≡ l .i = omega arith in
-    (omega arith, (rw (c .before .slope .ensures, l .inv .1) at (c .larger .ensures)) ∙ (rw e at (greatest-more (s .args .curve .now) (l .i - 1) (omega arith))))
+    (omega arith, (rw (c .before .slope .ensures, l .inv .1) at (c .larger .ensures)) ∙ (rw e at (greatest-more (s .args .stretches .now) (s .args .first) (s .args .m) (l .i - 1) (omega arith))))
 
 returns : tie.Need-returns Inv-loop μ-loop
 returns c = let z : c .before .loop .i ≡ 0 = omega arith in rw z at (c .before .loop .inv .1)
@@ -56,10 +56,10 @@ steepest-spec =
     (tie.spec
     Inv-loop
     μ-loop
-    breakpoint-count-requires
     add-i
     loop-holds
     sub-i
+    add-slope
     slope-requires
     larger-requires
     loop-less

@@ -9,16 +9,16 @@ use Rattle.circuit.proofs.node.held.Statement.{statement}
 use Rattle.circuit.proofs.node.held.Tie as tie
 
 abbrev Inv-loop : tie.InvT-loop
-Inv-loop image board lines node count sum₀ j₀ sum j = (j ≤ count) × (sum ≡ added board (heldEach image board node) j)
+Inv-loop board stretches node count total₀ j₀ total j = (j ≤ count) × (total ≡ added board (heldEach board stretches node) j)
 
 abbrev μ-loop : tie.MeasureT-loop
-μ-loop image board lines node count sum₀ j₀ sum j = count - j
+μ-loop board stretches node count total₀ j₀ total j = count - j
 
 -- one more element
-one-more : (c : tie.After-held-by Inv-loop μ-loop) → c .before .before .loop .sum + c .held-by .result ≡ added (c .before .before .before .before .before .before .args .board .now) (heldEach (c .before .before .before .before .before .before .args .image .now) (c .before .before .before .before .before .before .args .board .now) (c .before .before .before .before .before .before .args .node)) (c .before .before .loop .j + 1)
+one-more : (c : tie.After-held-by Inv-loop μ-loop) → c .before .before .loop .total + c .held-by .result ≡ added (c .before .before .before .before .before .args .board .now) (heldEach (c .before .before .before .before .before .args .board .now) (c .before .before .before .before .before .args .stretches .now) (c .before .before .before .before .before .args .node)) (c .before .before .loop .j + 1)
 one-more c =
-    let s = c .before .before .before .before .before .before in
-    omega (arith, c .held-by .ensures, c .before .before .loop .inv .1, total-more (heldEach (s .args .image .now) (s .args .board .now) (s .args .node)) (c .before .before .loop .j))
+    let s = c .before .before .before .before .before in
+    omega (arith, c .held-by .ensures (s .args .stretches .now), c .before .before .loop .inv .1, total-more (heldEach (s .args .board .now) (s .args .stretches .now) (s .args .node)) (c .before .before .loop .j))
 
 count-requires : tie.Need-count-requires Inv-loop μ-loop
 count-requires c κs = search needs
@@ -27,15 +27,15 @@ leak-requires : tie.Need-leak-requires Inv-loop μ-loop
 leak-requires c κs = search needs
 
 loop-holds : tie.Need-loop-holds Inv-loop μ-loop
-loop-holds c = let s = c .before .before .before in (search needs, omega (arith, c .leak .ensures, total-none (heldEach (s .args .image .now) (s .args .board .now) (s .args .node))))
+loop-holds c = let s = c .before .before in (search needs, omega (arith, c .leak .ensures, total-none (heldEach (s .args .board .now) (s .args .stretches .now) (s .args .node))))
 
 held-by-requires : tie.Need-held-by-requires Inv-loop μ-loop
 held-by-requires c κs = search needs
 
-add-sum : tie.Need-add-sum Inv-loop μ-loop
-add-sum c =
-    let s = c .before .before .before .before .before .before in
-    record { fits = omega (arith, one-more c, held-more-fits (s .args .image .now) (s .args .board .now) (s .args .lines .now) (s .pre) (s .args .node) (c .before .before .loop .j) (omega (arith, c .before .before .before .before .count .ensures))) }
+add-total : tie.Need-add-total Inv-loop μ-loop
+add-total c =
+    let s = c .before .before .before .before .before in
+    record { fits = omega (arith, one-more c, held-more-fits (s .args .board .now) (s .args .stretches .now) (s .pre) (s .args .node) (c .before .before .loop .j) (omega (arith, c .before .before .before .before .count .ensures))) }
 
 add-j : tie.Need-add-j Inv-loop μ-loop
 add-j c = search needs
@@ -48,9 +48,9 @@ loop-again c = (search needs, one-more c)
 
 returns : tie.Need-returns Inv-loop μ-loop
 returns c =
-    let s = c .before .before .before .before .before in
+    let s = c .before .before .before .before in
     let e : c .before .loop .j ≡ countOn (s .args .board .now) = omega (arith, c .before .before .before .count .ensures) in
-    c .before .loop .inv .1 ∙ ap (added (s .args .board .now) (heldEach (s .args .image .now) (s .args .board .now) (s .args .node))) e ∙ held-all (s .args .image .now) (s .args .board .now) (s .args .lines .now) (s .pre) (s .args .node)
+    c .before .loop .inv .1 ∙ ap (added (s .args .board .now) (heldEach (s .args .board .now) (s .args .stretches .now) (s .args .node))) e ∙ held-all (s .args .board .now) (s .args .stretches .now) (s .pre) (s .args .node)
 
 pub held-spec : {M : Type 1} → statement M
 held-spec =
@@ -62,7 +62,7 @@ held-spec =
     leak-requires
     loop-holds
     held-by-requires
-    add-sum
+    add-total
     add-j
     loop-less
     loop-again

@@ -29,22 +29,22 @@ enum-told-3 : tie.Need-enum-told-3
 enum-told-3 c = search needs
 
 returns : tie.Need-returns
-returns c =
+returns c stretches =
     let a = c .before .before .before .before in
-    let s = a .before .before in
-    (rw (c .before .end-q .ensures) at (c .held-from .ensures)) ∙ held-p (s .args .image .now) (s .args .board .now) (s .args .j) (s .args .node) (sym (c .before .before .enum-told .given .1) ∙ a .end-at .ensures)
+    let s = a .before in
+    (rw (c .before .end-q .ensures) at (c .held-from .ensures)) ∙ held-p (s .args .board .now) stretches (s .args .j) (s .args .node) (sym (c .before .before .enum-told .given .1) ∙ a .end-at .ensures)
 
 returns-2 : tie.Need-returns-2
-returns-2 c =
+returns-2 c stretches =
     let a = c .before .before .before .before in
-    let s = a .before .before in
-    (rw (c .before .end-p .ensures) at (c .held-from2 .ensures)) ∙ held-q (s .args .image .now) (s .args .board .now) (s .args .j) (s .args .node) (sym (c .before .before .enum-told2 .given .1) ∙ a .end-at .ensures)
+    let s = a .before in
+    (rw (c .before .end-p .ensures) at (c .held-from2 .ensures)) ∙ held-q (s .args .board .now) stretches (s .args .j) (s .args .node) (sym (c .before .before .enum-told2 .given .1) ∙ a .end-at .ensures)
 
 returns-3 : tie.Need-returns-3
-returns-3 c =
+returns-3 c stretches =
     let a = c .before .before in
-    let s = a .before .before in
-    held-neither (s .args .image .now) (s .args .board .now) (s .args .j) (s .args .node) (sym (c .enum-told3 .given .1) ∙ a .end-at .ensures)
+    let s = a .before in
+    held-neither (s .args .board .now) stretches (s .args .j) (s .args .node) (sym (c .enum-told3 .given .1) ∙ a .end-at .ensures)
 
 pub held-by-spec : {M : Type 1} → statement M
 held-by-spec =

@@ -6,7 +6,7 @@ use Rattle.circuit.proofs.node.steepest_by.Statement.{statement}
 use Rattle.circuit.proofs.node.steepest_by.Tie as tie
 
 end-at-requires : tie.Need-end-at-requires
-end-at-requires c κs = let s = c .before in omega (arith, few-elements _ _ _ (s .pre .0))
+end-at-requires c κs = let s = c in omega (arith, few-elements _ _ (s .pre .0))
 
 enum-told : tie.Need-enum-told
 enum-told c = search needs
@@ -26,20 +26,20 @@ enum-told-3 c = search needs
 returns : tie.Need-returns
 returns c =
     let a = c .before .before .before in
-    let s = a .before .before in
-    c .steepest .ensures ∙ steepest-p (s .args .image .now) (s .args .board .now) (s .args .j) (s .args .node) (sym (c .before .enum-told .given .1) ∙ a .end-at .ensures)
+    let s = a .before in
+    c .steepest .ensures ∙ steepest-p (s .args .board .now) (s .args .stretches .now) (s .args .j) (s .args .node) (sym (c .before .enum-told .given .1) ∙ a .end-at .ensures)
 
 returns-2 : tie.Need-returns-2
 returns-2 c =
     let a = c .before .before .before in
-    let s = a .before .before in
-    c .steepest2 .ensures ∙ steepest-q (s .args .image .now) (s .args .board .now) (s .args .j) (s .args .node) (sym (c .before .enum-told2 .given .1) ∙ a .end-at .ensures)
+    let s = a .before in
+    c .steepest2 .ensures ∙ steepest-q (s .args .board .now) (s .args .stretches .now) (s .args .j) (s .args .node) (sym (c .before .enum-told2 .given .1) ∙ a .end-at .ensures)
 
 returns-3 : tie.Need-returns-3
 returns-3 c =
     let a = c .before .before in
-    let s = a .before .before in
-    steepest-neither (s .args .image .now) (s .args .board .now) (s .args .j) (s .args .node) (sym (c .enum-told3 .given .1) ∙ a .end-at .ensures)
+    let s = a .before in
+    steepest-neither (s .args .board .now) (s .args .stretches .now) (s .args .j) (s .args .node) (sym (c .enum-told3 .given .1) ∙ a .end-at .ensures)
 
 pub steepest-by-spec : {M : Type 1} → statement M
 steepest-by-spec =

@@ -1,4 +1,3 @@
-use Rattle.guess.proofs.PlaceLaws.{fitting}
 use borrow.Author.Needs.{needs}
 use Rattle.guess.proofs.newton.newton.Statement.{statement}
 use Rattle.guess.proofs.newton.newton.Tie as tie
@@ -8,27 +7,27 @@ copied-requires c κs = search needs
 
 search-requires : tie.Need-search-requires
 search-requires c κs =
-    let s = c .before .before .before in
+    let s = c .before .before in
     let k = c .before .copied .ensures in
-    (rw (k .0) (s .pre), fitting _ _ _ (s .pre .ready), rw (k .0) (record { long = k .1; ranged = s .pre .ranged }))
+    (rw (k .0) (s .pre), rw (k .0) (record { long = k .1; ranged = s .pre .ranged }))
 
 enum-known-left : tie.Need-enum-known-left
 enum-known-left c = search needs
 
-put-requires : tie.Need-put-requires
-put-requires c κs = search needs
+place-free-requires : tie.Need-place-free-requires
+place-free-requires c κs = search needs
 
 enum-known-left-2 : tie.Need-enum-known-left-2
 enum-known-left-2 c = search needs
 
-put-requires-2 : tie.Need-put-requires-2
-put-requires-2 c κs = search needs
+place-free-requires-2 : tie.Need-place-free-requires-2
+place-free-requires-2 c κs = search needs
 
 enum-told : tie.Need-enum-told
 enum-told c = search needs
 
-put-requires-3 : tie.Need-put-requires-3
-put-requires-3 c κs = search needs
+place-free-requires-3 : tie.Need-place-free-requires-3
+place-free-requires-3 c κs = search needs
 
 returns : tie.Need-returns
 returns c = search needs
@@ -46,11 +45,11 @@ newton-spec =
     copied-requires
     search-requires
     enum-known-left
-    put-requires
+    place-free-requires
     enum-known-left-2
-    put-requires-2
+    place-free-requires-2
     enum-told
-    put-requires-3
+    place-free-requires-3
     returns
     returns-2
     returns-3)

@@ -17,7 +17,7 @@ end-q-requires : tie.Need-end-q-requires
 end-q-requires c κs = search needs
 
 float-at-requires : tie.Need-float-at-requires
-float-at-requires c κs = let s = c .before .before .before .before .before .before in omega (arith, c .end-q .ensures, q-node _ _ _ (s .pre .0 .ready) (s .args .j) (s .pre .1), few-nodes _ _ _ (s .pre .0 .ready))
+float-at-requires c κs = let s = c .before .before .before .before .before in omega (arith, c .end-q .ensures, q-node _ _ (s .pre .0 .ready .laid) (s .args .j) (s .pre .1), few-nodes _ _ (s .pre .0 .ready .laid))
 
 enum-told-2 : tie.Need-enum-told-2
 enum-told-2 c = search needs
@@ -29,7 +29,7 @@ end-p-requires : tie.Need-end-p-requires
 end-p-requires c κs = search needs
 
 float-at-requires-2 : tie.Need-float-at-requires-2
-float-at-requires-2 c κs = let s = c .before .before .before .before .before .before in omega (arith, c .end-p .ensures, p-node _ _ _ (s .pre .0 .ready) (s .args .j) (s .pre .1), few-nodes _ _ _ (s .pre .0 .ready))
+float-at-requires-2 c κs = let s = c .before .before .before .before .before in omega (arith, c .end-p .ensures, p-node _ _ (s .pre .0 .ready .laid) (s .args .j) (s .pre .1), few-nodes _ _ (s .pre .0 .ready .laid))
 
 enum-told-3 : tie.Need-enum-told-3
 enum-told-3 c = search needs

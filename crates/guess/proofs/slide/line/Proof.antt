@@ -1,15 +1,15 @@
 use Rattle.circuit.specs.Board.{countOn}
 use mathlib.Core.Path.{_≡_}
-use Prim.Native.Nat.{ℕ, suc, _≤_, _<_, _-_}
+use Prim.Native.Nat.{_≤_, _-_}
 use borrow.Author.Needs.{needs}
 use Rattle.guess.proofs.slide.line.Statement.{statement}
 use Rattle.guess.proofs.slide.line.Tie as tie
 
 abbrev Inv-loop : tie.InvT-loop
-Inv-loop image board lines stored volts node count slope₀ at-zero₀ j₀ slope at-zero j = (count ≡ countOn board) × (count ≤ 32)
+Inv-loop board stretches stored volts node count slope₀ at-zero₀ j₀ slope at-zero j = (count ≡ countOn board) × (count ≤ 32)
 
 abbrev μ-loop : tie.MeasureT-loop
-μ-loop image board lines stored volts node count slope₀ at-zero₀ j₀ slope at-zero j = count - j
+μ-loop board stretches stored volts node count slope₀ at-zero₀ j₀ slope at-zero j = count - j
 
 count-requires : tie.Need-count-requires Inv-loop μ-loop
 count-requires c κs = search needs

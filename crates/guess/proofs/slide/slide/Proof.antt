@@ -7,10 +7,10 @@ use Rattle.guess.proofs.slide.slide.Statement.{statement}
 use Rattle.guess.proofs.slide.slide.Tie as tie
 
 abbrev Inv-loop : tie.InvT-loop
-Inv-loop image board lines stored node volts₀ t₀ x₀ changed₀ rounds₀ volts t x changed rounds = (rounds ≤ 12) × Standing board volts
+Inv-loop board stretches stored node volts₀ t₀ x₀ changed₀ rounds₀ volts t x changed rounds = (rounds ≤ 12) × Standing board volts
 
 abbrev μ-loop : tie.MeasureT-loop
-μ-loop image board lines stored node volts₀ t₀ x₀ changed₀ rounds₀ volts t x changed rounds = 12 - rounds
+μ-loop board stretches stored node volts₀ t₀ x₀ changed₀ rounds₀ volts t x changed rounds = 12 - rounds
 
 -- a round more is one of the twelve
 few : (c : tie.Then1 Inv-loop μ-loop) → c .before .before .loop .rounds < 12
@@ -25,8 +25,8 @@ loop-holds c = search needs
 crossing-requires : tie.Need-crossing-requires Inv-loop μ-loop
 crossing-requires c κs = search needs
 
-put-requires : tie.Need-put-requires Inv-loop μ-loop
-put-requires c κs = search needs
+place-node-requires : tie.Need-place-node-requires Inv-loop μ-loop
+place-node-requires c κs = search needs
 
 returns : tie.Need-returns Inv-loop μ-loop
 returns c = search needs
@@ -41,7 +41,7 @@ loop-less : tie.Need-loop-less Inv-loop μ-loop
 loop-less c = omega (arith, few (c .before .before .before .before .before .before .before .before .before .before))
 
 loop-again : tie.Need-loop-again Inv-loop μ-loop
-loop-again c = (omega (arith, few (c .before .before .before .before .before .before .before .before .before .before)), c .before .before .before .before .before .before .before .put .ensures)
+loop-again c = (omega (arith, few (c .before .before .before .before .before .before .before .before .before .before)), c .before .before .before .before .before .before .before .place-node .ensures)
 
 left-requires : tie.Need-left-requires Inv-loop μ-loop
 left-requires c κs = search needs
@@ -64,7 +64,7 @@ slide-spec =
     line-requires
     loop-holds
     crossing-requires
-    put-requires
+    place-node-requires
     returns
     line-requires-2
     add-rounds

@@ -2,15 +2,16 @@ use mathlib.Core.Path.{_≡_, sym, _∙_}
 use Rattle.circuit.specs.Board.{countOn}
 use Prim.Native.Nat.{_-_, _≤_, _<_}
 use native.Mathlib.Omega.{arith}
+use Rattle.guess.proofs.PlaceLaws.{in-places}
 use borrow.Author.Needs.{needs}
 use Rattle.guess.proofs.straight.retaken.Statement.{statement}
 use Rattle.guess.proofs.straight.retaken.Tie as tie
 
 abbrev Inv-loop : tie.InvT-loop
-Inv-loop image board lines stored volts m₀ next₀ changed₀ count j₀ m next changed j = (count ≡ countOn board) × (j ≤ count) × (count ≤ 32)
+Inv-loop board stretches volts m₀ next₀ changed₀ count j₀ m next changed j = (count ≡ countOn board) × (j ≤ count) × (count ≤ 32)
 
 abbrev μ-loop : tie.MeasureT-loop
-μ-loop image board lines stored volts m₀ next₀ changed₀ count j₀ m next changed j = 32 - j
+μ-loop board stretches volts m₀ next₀ changed₀ count j₀ m next changed j = 32 - j
 
 count-requires : tie.Need-count-requires Inv-loop μ-loop
 count-requires c κs = search needs
@@ -21,10 +22,13 @@ loop-holds c = search needs
 kind-requires : tie.Need-kind-requires Inv-loop μ-loop
 kind-requires c κs = search needs
 
-of-diode-requires : tie.Need-of-diode-requires Inv-loop μ-loop
-of-diode-requires c κs =
+has-curve-requires : tie.Need-has-curve-requires Inv-loop μ-loop
+has-curve-requires c κs = search needs
+
+of-curve-requires : tie.Need-of-curve-requires Inv-loop μ-loop
+of-curve-requires c κs =
     let s = c .before .before .before .before .before .before in
-    (s .pre .0, omega (arith, c .before .before .before .loop .inv .0), sym (c .before .kind .ensures) ∙ c .if1 .taken)
+    (s .pre .0, s .pre .1, omega (arith, c .before .before .before .before .loop .inv .0), rw (c .before .before .kind .ensures) at (sym (c .before .has-curve .ensures) ∙ c .if1 .taken))
 
 mul-old : tie.Need-mul-old Inv-loop μ-loop
 mul-old c = search needs
@@ -41,10 +45,11 @@ end-q-requires c κs = search needs
 join-requires : tie.Need-join-requires Inv-loop μ-loop
 join-requires c κs =
     let s = c .before .before .before .before .before .before .before .before .before .before .before .before .before .before .before .before in
-    let l = c .before .before .before .before .before .before .before .before .before .before .before .before .before .loop in
+    let l = c .before .before .before .before .before .before .before .before .before .before .before .before .before .before .loop in
+    let f = in-places _ _ (s .pre .0) in
     let there : l .j < countOn (s .args .board .now) = omega (arith, l .inv .0) in (
-      omega (arith, c .before .before .before .end-p .ensures, s .pre .1 .p-there (l .j) there, s .pre .1 .few-nodes),
-      omega (arith, c .before .before .end-q .ensures, s .pre .1 .q-there (l .j) there, s .pre .1 .few-nodes),
+      omega (arith, c .before .before .before .end-p .ensures, f .p-there (l .j) there, f .few-nodes),
+      omega (arith, c .before .before .end-q .ensures, f .q-there (l .j) there, f .few-nodes),
     )
 
 mul-next : tie.Need-mul-next Inv-loop μ-loop
@@ -74,7 +79,8 @@ retaken-spec =
     count-requires
     loop-holds
     kind-requires
-    of-diode-requires
+    has-curve-requires
+    of-curve-requires
     mul-old
     array-copy-out-old
     end-p-requires

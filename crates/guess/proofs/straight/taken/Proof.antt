@@ -1,17 +1,17 @@
 use mathlib.Core.Path.{_≡_}
-use mathlib.Core.Path.{_≡_}
 use Rattle.circuit.specs.Board.{countOn}
 use Prim.Native.Nat.{_-_, _≤_, _<_}
 use native.Mathlib.Omega.{arith}
+use Rattle.guess.proofs.PlaceLaws.{in-places}
 use borrow.Author.Needs.{needs}
 use Rattle.guess.proofs.straight.taken.Statement.{statement}
 use Rattle.guess.proofs.straight.taken.Tie as tie
 
 abbrev Inv-loop : tie.InvT-loop
-Inv-loop image board lines stored volts m₀ tangents₀ count j₀ m tangents j = (count ≡ countOn board) × (j ≤ count) × (count ≤ 32)
+Inv-loop board stretches stored volts m₀ tangents₀ count j₀ m tangents j = (count ≡ countOn board) × (j ≤ count) × (count ≤ 32)
 
 abbrev μ-loop : tie.MeasureT-loop
-μ-loop image board lines stored volts m₀ tangents₀ count j₀ m tangents j = 32 - j
+μ-loop board stretches stored volts m₀ tangents₀ count j₀ m tangents j = 32 - j
 
 count-requires : tie.Need-count-requires Inv-loop μ-loop
 count-requires c κs = search needs
@@ -30,11 +30,12 @@ end-q-requires c κs = search needs
 
 join-requires : tie.Need-join-requires Inv-loop μ-loop
 join-requires c κs =
-    let s = c .before .before .before .before .before .before .before .before in
+    let s = c .before .before .before .before .before .before .before in
     let l = c .before .before .before .before .before .loop in
+    let f = in-places _ _ (s .pre .ready .laid) in
     let there : l .j < countOn (s .args .board .now) = omega (arith, l .inv .0) in (
-      omega (arith, c .before .end-p .ensures, s .pre .1 .p-there (l .j) there, s .pre .1 .few-nodes),
-      omega (arith, c .end-q .ensures, s .pre .1 .q-there (l .j) there, s .pre .1 .few-nodes),
+      omega (arith, c .before .end-p .ensures, f .p-there (l .j) there, f .few-nodes),
+      omega (arith, c .end-q .ensures, f .q-there (l .j) there, f .few-nodes),
     )
 
 mul-tangents : tie.Need-mul-tangents Inv-loop μ-loop

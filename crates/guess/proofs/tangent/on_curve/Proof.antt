@@ -1,36 +1,34 @@
-use Prim.Native.Nat.{_+_, _≤_, _<_}
+use Prim.Native.Nat.{_+_, _<_}
 use native.Mathlib.Omega.{arith}
-use lib.ListN.{getD}
-use mir.Facts.{toZ-ofZ}
+use mir.Syntax.{w64}
+use mir.Val.{toZ, ofZ}
 use borrow.Author.Needs.{needs}
-use Rattle.circuit.proofs.CurveLaws.{few, stretch-few}
+use Rattle.circuit.specs.Stretch.{rows, breakpointsIn}
+use Rattle.circuit.proofs.StretchLaws.{stretch-there}
+use Rattle.circuit.proofs.CurveLaws.{breakpoints-in}
 use Rattle.guess.proofs.tangent.on_curve.Statement.{statement}
 use Rattle.guess.proofs.tangent.on_curve.Tie as tie
 
--- the stretch is one of the curve's, and its line has a place
-there : (c : tie.After-stretch) → c .stretch .result ≤ getD (c .before .before .args .curve .now) 0 0
-there c = let s = c .before .before in omega (arith, rw (toZ-ofZ (s .fits .v)) at (c .stretch .ensures), stretch-few (s .args .curve .now) (s .args .lines .now) (s .args .at) (s .pre) (s .args .v))
-
-place : (c : tie.After-stretch) → c .before .before .args .at + c .stretch .result < 136
-place c = let s = c .before .before in omega (arith, there c, few _ (s .pre .whole), s .pre .lines-there)
+-- the stretch is one of the curve's
+there : (c : tie.After-stretch) → c .before .args .first + c .stretch .result < rows
+there c =
+    let a = c .before .args in
+    omega (arith, c .stretch .ensures, stretch-there (breakpointsIn (a .stretches .now) (a .first) (a .m)) (toZ w64 (ofZ w64 (a .v))), breakpoints-in (a .stretches .now) (a .first) (a .m), c .before .pre)
 
 stretch-requires : tie.Need-stretch-requires
 stretch-requires c κs = search needs
 
+add-row : tie.Need-add-row
+add-row c = record { fits = omega (arith, there c) }
+
 slope-requires : tie.Need-slope-requires
-slope-requires c κs = let s = c .before .before in omega (arith, there c, s .pre .whole .length-is)
+slope-requires c κs = there c
 
 nearest-u64-to-f64-requires : tie.Need-nearest-u64-to-f64-requires
 nearest-u64-to-f64-requires c κs = search needs
 
-add-nearest-i64-to-f64 : tie.Need-add-nearest-i64-to-f64
-add-nearest-i64-to-f64 c = record { fits = omega (arith, place (c .before .before)) }
-
-mul-nearest-i64-to-f64 : tie.Need-mul-nearest-i64-to-f64
-mul-nearest-i64-to-f64 c = record { fits = omega (arith, place (c .before .before)) }
-
-element-copy-out-nearest-i64-to-f64 : tie.Need-element-copy-out-nearest-i64-to-f64
-element-copy-out-nearest-i64-to-f64 c = place (c .before .before)
+at-zero-requires : tie.Need-at-zero-requires
+at-zero-requires c κs = there (c .before .before)
 
 nearest-i64-to-f64-requires : tie.Need-nearest-i64-to-f64-requires
 nearest-i64-to-f64-requires c κs = search needs
@@ -43,10 +41,9 @@ on-curve-spec =
     tie.close
     (tie.spec
     stretch-requires
+    add-row
     slope-requires
     nearest-u64-to-f64-requires
-    add-nearest-i64-to-f64
-    mul-nearest-i64-to-f64
-    element-copy-out-nearest-i64-to-f64
+    at-zero-requires
     nearest-i64-to-f64-requires
     returns)

@@ -1,6 +1,5 @@
 -- `image::curve::breakpoint` meets its contract. The place is that of breakpointOf. Assumes nothing.
 use mathlib.Core.Path.{_≡_, _∙_}
-use Prim.Native.Nat.{_-_}
 use mir.Syntax.{w64}
 use mir.Val.{toZ, ofZ}
 use borrow.Author.Needs.{needs}

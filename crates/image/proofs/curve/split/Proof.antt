@@ -7,18 +7,17 @@ use lib.ListN.{List·getD-eq-default}
 use denote.Ref.{now}
 use borrow.Author.Tests.{not-true, not-false}
 use borrow.Author.Needs.{needs}
-use Rattle.network.specs.Network.{breakpointCountLimit}
-use Rattle.image.specs.Tests.{between, every}
-use Rattle.image.specs.Curve.{breakpointsAt}
-use Rattle.image.specs.Format.{startFrom}
+use Rattle.units.specs.Table.{every}
+use Rattle.units.proofs.Every.{every-none, every-more}
+use Rattle.image.specs.Parts.{curveSizeFits}
+use Rattle.image.specs.Curve.{breakpointsAt, startFrom}
 use Rattle.image.proofs.Curves.{start-none, start-more, splits-fails, splits-ends}
-use Rattle.image.proofs.Every.{every-none, every-more}
 use Rattle.image.proofs.curve.split.Statement.{statement}
 use Rattle.image.proofs.curve.split.Tie as tie
 
 abbrev Inv-loop : tie.InvT-loop
 Inv-loop image first count end at₀ k₀ at k =
-    (k ≤ count) × ((at ≡ startFrom image first k) × (every (λ (k : ℕ). between 1 breakpointCountLimit (breakpointsAt image (startFrom image first k))) k ≡ true))
+    (k ≤ count) × ((at ≡ startFrom image first k) × (every (λ (k : ℕ). curveSizeFits (breakpointsAt image (startFrom image first k))) k ≡ true))
 
 abbrev μ-loop : tie.MeasureT-loop
 μ-loop image first count end at₀ k₀ at k = count - k

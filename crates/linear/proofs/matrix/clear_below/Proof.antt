@@ -1,8 +1,7 @@
-use Prim.Native.Nat.{ℕ, suc, _≤_, _<_, _-_}
+use Prim.Native.Nat.{_≤_, _-_}
 use borrow.Author.Needs.{needs}
 use Rattle.linear.proofs.matrix.clear_below.Statement.{statement}
 use Rattle.linear.proofs.matrix.clear_below.Tie as tie
-use Rattle.linear.proofs.matrix.take_off.Reads as take-off-reads
 
 abbrev Inv-loop : tie.InvT-loop
 Inv-loop a₀ x₀ k inverse end i₀ a x i = 0 ≤ i

@@ -1,8 +1,7 @@
-use Prim.Native.Nat.{ℕ, suc, _≤_, _<_, _-_}
+use Prim.Native.Nat.{_≤_, _-_}
 use borrow.Author.Needs.{needs}
 use Rattle.linear.proofs.matrix.eliminate.Statement.{statement}
 use Rattle.linear.proofs.matrix.eliminate.Tie as tie
-use Rattle.linear.proofs.matrix.clear_below.Reads as clear-below-reads
 
 abbrev Inv-loop : tie.InvT-loop
 Inv-loop a₀ x₀ first end k₀ a x k = 0 ≤ k

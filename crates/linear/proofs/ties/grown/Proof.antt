@@ -1,4 +1,4 @@
-use Prim.Native.Nat.{ℕ, suc, _≤_, _<_, _-_}
+use Prim.Native.Nat.{_≤_, _-_}
 use borrow.Author.Needs.{needs}
 use Rattle.linear.proofs.ties.grown.Statement.{statement}
 use Rattle.linear.proofs.ties.grown.Tie as tie
@@ -9,8 +9,8 @@ Inv-loop m b first end ways₀ c₀ turn₀ ways c turn = 0 ≤ turn
 abbrev μ-loop : tie.MeasureT-loop
 μ-loop m b first end ways₀ c₀ turn₀ ways c turn = 15 - turn
 
-sets-requires : tie.Need-sets-requires Inv-loop μ-loop
-sets-requires c κs = search needs
+merged-requires : tie.Need-merged-requires Inv-loop μ-loop
+merged-requires c κs = search needs
 
 loop-holds : tie.Need-loop-holds Inv-loop μ-loop
 loop-holds c = search needs
@@ -18,11 +18,11 @@ loop-holds c = search needs
 stiffest-requires : tie.Need-stiffest-requires Inv-loop μ-loop
 stiffest-requires c κs = search needs
 
-place-requires : tie.Need-place-requires Inv-loop μ-loop
-place-requires c κs = search needs
+node-requires : tie.Need-node-requires Inv-loop μ-loop
+node-requires c κs = search needs
 
-place-requires-2 : tie.Need-place-requires-2 Inv-loop μ-loop
-place-requires-2 c κs = search needs
+node-requires-2 : tie.Need-node-requires-2 Inv-loop μ-loop
+node-requires-2 c κs = search needs
 
 returns : tie.Need-returns Inv-loop μ-loop
 returns c = search needs
@@ -51,11 +51,11 @@ grown-spec =
     (tie.spec
     Inv-loop
     μ-loop
-    sets-requires
+    merged-requires
     loop-holds
     stiffest-requires
-    place-requires
-    place-requires-2
+    node-requires
+    node-requires-2
     returns
     tie-requires
     merge-requires

@@ -1,8 +1,7 @@
-use Prim.Native.Nat.{ℕ, suc, _≤_, _<_, _-_}
+use Prim.Native.Nat.{_≤_, _-_}
 use borrow.Author.Needs.{needs}
 use Rattle.linear.proofs.ties.root.Statement.{statement}
 use Rattle.linear.proofs.ties.root.Tie as tie
-use Rattle.linear.proofs.ties.place.Reads as place-reads
 
 abbrev Inv-loop : tie.InvT-loop
 Inv-loop to i r₀ k₀ r k = r ≤ 15
@@ -13,14 +12,14 @@ abbrev μ-loop : tie.MeasureT-loop
 loop-holds : tie.Need-loop-holds Inv-loop μ-loop
 loop-holds c = search needs
 
-mul-place : tie.Need-mul-place Inv-loop μ-loop
-mul-place c = search needs
+mul-node : tie.Need-mul-node Inv-loop μ-loop
+mul-node c = search needs
 
-element-copy-out-place : tie.Need-element-copy-out-place Inv-loop μ-loop
-element-copy-out-place c = search needs
+element-copy-out-node : tie.Need-element-copy-out-node Inv-loop μ-loop
+element-copy-out-node c = search needs
 
-place-requires : tie.Need-place-requires Inv-loop μ-loop
-place-requires c κs = search needs
+node-requires : tie.Need-node-requires Inv-loop μ-loop
+node-requires c κs = search needs
 
 returns : tie.Need-returns Inv-loop μ-loop
 returns c = search needs
@@ -44,9 +43,9 @@ root-spec =
     Inv-loop
     μ-loop
     loop-holds
-    mul-place
-    element-copy-out-place
-    place-requires
+    mul-node
+    element-copy-out-node
+    node-requires
     returns
     add-k
     loop-less

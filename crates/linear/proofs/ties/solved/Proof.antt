@@ -1,12 +1,7 @@
-use Prim.Native.Nat.{ℕ, suc, _≤_, _<_, _-_}
+use Prim.Native.Nat.{_≤_, _-_}
 use borrow.Author.Needs.{needs}
 use Rattle.linear.proofs.ties.solved.Statement.{statement}
 use Rattle.linear.proofs.ties.solved.Tie as tie
-use Rattle.linear.proofs.matrix.solve_in.Reads as solve-in-reads
-use Rattle.linear.proofs.whole.nearest.Reads as nearest-reads
-use Rattle.linear.proofs.ties.root.Reads as root-reads
-use Rattle.linear.proofs.ties.strained.Reads as strained-reads
-use Rattle.linear.proofs.ties.tie_rows.Reads as tie-rows-reads
 
 abbrev Inv-loop : tie.InvT-loop
 Inv-loop m b first end to₀ by₀ at₀ turn₀ to by at turn = 0 ≤ turn

@@ -1,4 +1,4 @@
-use Prim.Native.Nat.{ℕ, suc, _≤_, _<_, _-_}
+use Prim.Native.Nat.{_≤_, _-_}
 use borrow.Author.Needs.{needs}
 use Rattle.linear.proofs.ties.stiffest.Statement.{statement}
 use Rattle.linear.proofs.ties.stiffest.Tie as tie

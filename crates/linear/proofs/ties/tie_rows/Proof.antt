@@ -1,8 +1,7 @@
-use Prim.Native.Nat.{ℕ, suc, _≤_, _<_, _-_}
+use Prim.Native.Nat.{_≤_, _-_}
 use borrow.Author.Needs.{needs}
 use Rattle.linear.proofs.ties.tie_rows.Statement.{statement}
 use Rattle.linear.proofs.ties.tie_rows.Tie as tie
-use Rattle.linear.proofs.ties.place.Reads as place-reads
 
 abbrev Inv-loop : tie.InvT-loop
 Inv-loop a₀ x₀ to by first end empty k₀ a x k = 0 ≤ k
@@ -13,17 +12,17 @@ abbrev μ-loop : tie.MeasureT-loop
 loop-holds : tie.Need-loop-holds Inv-loop μ-loop
 loop-holds c = search needs
 
-add-place : tie.Need-add-place Inv-loop μ-loop
-add-place c = search needs
+add-node : tie.Need-add-node Inv-loop μ-loop
+add-node c = search needs
 
-mul-place : tie.Need-mul-place Inv-loop μ-loop
-mul-place c = search needs
+mul-node : tie.Need-mul-node Inv-loop μ-loop
+mul-node c = search needs
 
-element-copy-out-place : tie.Need-element-copy-out-place Inv-loop μ-loop
-element-copy-out-place c = search needs
+element-copy-out-node : tie.Need-element-copy-out-node Inv-loop μ-loop
+element-copy-out-node c = search needs
 
-place-requires : tie.Need-place-requires Inv-loop μ-loop
-place-requires c κs = search needs
+node-requires : tie.Need-node-requires Inv-loop μ-loop
+node-requires c κs = search needs
 
 mul-empty : tie.Need-mul-empty Inv-loop μ-loop
 mul-empty c = search needs
@@ -95,10 +94,10 @@ tie-rows-spec =
     Inv-loop
     μ-loop
     loop-holds
-    add-place
-    mul-place
-    element-copy-out-place
-    place-requires
+    add-node
+    mul-node
+    element-copy-out-node
+    node-requires
     mul-empty
     element-set-from-empty
     mul-a

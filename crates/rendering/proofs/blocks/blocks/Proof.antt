@@ -1,7 +1,7 @@
 use mathlib.Core.Path.{_≡_, refl, sym, _∙_, ap}
 use Prim.Native.Nat.{ℕ, _+_, _*_, _-_, _^_, _≤_, _<_}
 use native.Mathlib.Omega.{arith}
-use Rattle.image.specs.Format.{readingOf}
+use Rattle.image.specs.Format.{openingOf}
 use Rattle.rendering.specs.Rendering.{blockSamples, drivenOf, Whole, start}
 use Rattle.rendering.proofs.RenderingLaws.{Rendering, rendering-start, rendering-last, rendering-more, rendering-enough, turn-few}
 use borrow.Author.Needs.{needs}
@@ -9,7 +9,7 @@ use Rattle.rendering.proofs.blocks.blocks.Statement.{statement}
 use Rattle.rendering.proofs.blocks.blocks.Tie as tie
 
 abbrev Inv-loop : tie.InvT-loop
-Inv-loop image drives out driven state₀ total₀ state total = (driven ≡ drivenOf (readingOf image)) × (driven ≤ 15) × (total < 2 ^ 62 + blockSamples) × Rendering image total (state .currents)
+Inv-loop image drives out driven state₀ total₀ state total = (driven ≡ drivenOf (openingOf image)) × (driven ≤ 15) × (total < 2 ^ 62 + blockSamples) × Rendering image total state
 
 abbrev μ-loop : tie.MeasureT-loop
 μ-loop image drives out driven state₀ total₀ state total = 2 ^ 62 + blockSamples - total

@@ -1,21 +1,20 @@
-use mathlib.Core.Path.{_≡_, refl, sym, _∙_, ap, subst}
-use mathlib.Core.List.{List}
+use mathlib.Core.Path.{_≡_, refl, _∙_}
 use Prim.Native.Nat.{ℕ, _+_, _-_, _≤_, _<_}
-use native.Mathlib.Omega.{arith}
 use lib.IntN.{ℤ, pos}
-use lib.ListN.{set}
+use lib.ListN.{set, length-set}
+use Rattle.circuit.specs.Board.{drivenOn}
+use Rattle.solve.specs.Search.{Changed}
+use Rattle.solve.specs.Answer.{SeatedAt}
+use Rattle.solve.proofs.PlaceLaws.{changed-none, changed-more, changed-all}
+use native.Mathlib.Omega.{arith}
+use borrow.Author.Needs.{needs}
 use mir.Syntax.{w64}
 use mir.Val.{toZ, ofZ}
-use Rattle.network.specs.Network.{reading}
-use Rattle.circuit.specs.Board.{drivenOn}
-use Rattle.solve.specs.Answer.{Seated}
-use Rattle.solve.proofs.AnswerLaws.{SeatedTo, seated-none, seated-more, seated-all}
-use borrow.Author.Needs.{needs}
 use Rattle.solve.proofs.answer.seat.Statement.{statement}
 use Rattle.solve.proofs.answer.seat.Tie as tie
 
 abbrev Inv-loop : tie.InvT-loop
-Inv-loop board top volts₀ given nodes i₀ volts i = (drivenOn board < i) × (i ≤ nodes + 1) × SeatedTo board top given volts i
+Inv-loop board top volts₀ given nodes i₀ volts i = (drivenOn board < i) × (i ≤ nodes + 1) × Changed (λ (j : ℕ) (u : ℤ). SeatedAt top u) board (set given 0 (pos 0)) volts i
 
 abbrev μ-loop : tie.MeasureT-loop
 μ-loop board top volts₀ given nodes i₀ volts i = nodes + 1 - i
@@ -30,33 +29,28 @@ driven-requires : tie.Need-driven-requires Inv-loop μ-loop
 driven-requires c κs = search needs
 
 add-i : tie.Need-add-i Inv-loop μ-loop
-add-i c = let s = c .before .before .before .before in record { fits = omega (arith, c .driven .ensures, s .pre .0, s .pre .1) }
+add-i c = record { fits = omega (arith, c .driven .ensures, c .before .before .before .before .pre .0, c .before .before .before .before .pre .1) }
 
 element-set-of-volts : tie.Need-element-set-of-volts Inv-loop μ-loop
 element-set-of-volts c = search needs
 
 loop-holds : tie.Need-loop-holds Inv-loop μ-loop
 loop-holds c =
-    let s = c .before .before .before .before in
-    let a = s .args in
-    let k = c .before .before .copied .ensures in (
-      omega (arith, c .driven .ensures),
-      omega (arith, c .driven .ensures, c .before .nodes .ensures, s .pre .1),
-      rw (c .driven .ensures, k .0) (seated-none (a .board .now) (a .top) (a .volts .now) (k .1)),
-    )
+    let k = c .before .before .copied .ensures in
+    (omega (arith, c .driven .ensures), omega (arith, c .driven .ensures, c .before .nodes .ensures, c .before .before .before .before .pre .1), rw (c .driven .ensures, k .0) (changed-none (length-set (c .before .before .before .before .args .volts .now) 0 (pos 0) ∙ k .1) refl))
 
 -- a node of the loop has a place in the array
 place : (c : tie.In-loop Inv-loop μ-loop) → c .before .loop .i < 16
 place c = omega (arith, c .before .before .before .nodes .ensures, c .before .before .before .before .before .before .pre .0)
 
-mul-placed : tie.Need-mul-placed Inv-loop μ-loop
-mul-placed c = record { fits = omega (arith, place c) }
+mul-seat-at : tie.Need-mul-seat-at Inv-loop μ-loop
+mul-seat-at c = record { fits = omega (arith, place c) }
 
-array-copy-out-placed : tie.Need-array-copy-out-placed Inv-loop μ-loop
-array-copy-out-placed c = place c
+array-copy-out-seat-at : tie.Need-array-copy-out-seat-at Inv-loop μ-loop
+array-copy-out-seat-at c = place c
 
-placed-requires : tie.Need-placed-requires Inv-loop μ-loop
-placed-requires c κs = search needs
+seat-at-requires : tie.Need-seat-at-requires Inv-loop μ-loop
+seat-at-requires c κs = search needs
 
 mul-t18 : tie.Need-mul-t18 Inv-loop μ-loop
 mul-t18 c = record { fits = omega (arith, place (c .before .before)) }
@@ -72,16 +66,14 @@ loop-less c = omega arith
 
 loop-again : tie.Need-loop-again Inv-loop μ-loop
 loop-again c =
-    let a = c .before .before .before .before .before .before .before .before .args in
     let l = c .before .before .before .loop in
-    let e : toZ w64 (ofZ w64 (c .placed .result)) ≡ c .placed .result = search needs in
-    (omega arith, omega arith, seated-more (a .board .now) (a .top) (c .before .before .before .before .before .before .copied .result) (l .volts) (l .i) (l .inv .2) (toZ w64 (ofZ w64 (c .placed .result))) (l .inv .0) (place (c .before .before)) (rw e (c .placed .ensures)))
+    let e : toZ w64 (ofZ w64 (c .seat-at .result)) ≡ c .seat-at .result = search needs in
+    (omega arith, omega arith, changed-more (l .inv .2) (l .inv .0) (place (c .before .before)) (rw e (c .seat-at .ensures)))
 
 returns : tie.Need-returns Inv-loop μ-loop
 returns c =
-    let a = c .before .before .before .before .before .before .args in
-    let l = c .before .loop in
-    rw (c .before .before .before .before .copied .ensures .0) at (seated-all (a .board .now) (a .top) (c .before .before .before .before .copied .result) (l .volts) (l .i) (l .inv .2) (omega (arith, c .before .before .before .nodes .ensures)))
+    let k = c .before .before .before .before .copied .ensures in
+    record { long = k .1; places = rw (k .0) at (changed-all (c .before .loop .inv .2) (omega (arith, c .before .before .before .nodes .ensures))) }
 
 pub seat-spec : {M : Type 1} → statement M
 seat-spec =
@@ -95,9 +87,9 @@ seat-spec =
     add-i
     element-set-of-volts
     loop-holds
-    mul-placed
-    array-copy-out-placed
-    placed-requires
+    mul-seat-at
+    array-copy-out-seat-at
+    seat-at-requires
     mul-t18
     element-set-from-volts
     add-i-2

@@ -1,6 +1,5 @@
-use Prim.Native.Nat.{ℕ, _<_}
 use Rattle.network.specs.Network.{reading}
-use Rattle.network.proofs.Measures.{height}
+use Rattle.network.specs.Search.{height}
 use Rattle.circuit.specs.Board.{networkOn}
 use Rattle.solve.specs.Visit.{Visiting}
 use Rattle.solve.proofs.VisitLaws.{visiting-start, judged-highest, judged-higher}
@@ -9,45 +8,42 @@ use Rattle.solve.proofs.certify.certify.Statement.{statement}
 use Rattle.solve.proofs.certify.certify.Tie as tie
 
 abbrev Inv-loop : tie.InvT-loop
-Inv-loop image board lines stored volts s₀ s = Visiting image board lines stored volts s
+Inv-loop board stretches stored volts s₀ s = Visiting board stretches stored volts s
 
 abbrev μ-loop : tie.MeasureT-loop
-μ-loop image board lines stored volts s₀ s = height (networkOn image board) (reading s)
+μ-loop board stretches stored volts s₀ s = height (networkOn board stretches) (reading s)
 
 lift-requires : tie.Need-lift-requires Inv-loop μ-loop
-lift-requires c κs = (c .before .before .pre .1, c .before .before .pre .2)
+lift-requires c κs = (c .before .pre .1, c .before .pre .2)
 
 loop-holds : tie.Need-loop-holds Inv-loop μ-loop
-loop-holds c = let a = c .before .before .before .args in visiting-start (a .image .now) (a .board .now) (a .lines .now) (a .stored .now) (a .volts .now) (c .lift .last .1 .1 .0) (c .before .before .before .pre .0) (c .lift .ensures)
+loop-holds c = visiting-start (c .before .before .pre .0) (c .lift .ensures)
 
-pass-requires : tie.Need-pass-requires Inv-loop μ-loop
-pass-requires c κs = c .before .loop .inv
+visit-all-requires : tie.Need-visit-all-requires Inv-loop μ-loop
+visit-all-requires c κs = c .before .loop .inv
 
 enum-told : tie.Need-enum-told Inv-loop μ-loop
 enum-told c = search needs
 
 returns : tie.Need-returns Inv-loop μ-loop
-returns c =
-    let a = c .before .before .before .before .before .before .before .before .args in
-    judged-highest (a .image .now) (a .board .now) (a .lines .now) (a .stored .now) (a .volts .now) (c .before .before .pass .last .1 .1 .1 .1 .1 .0) (c .before .before .pass .ensures .0) (rw (c .enum-told .given .1) at (c .before .before .pass .ensures .1))
+returns c = judged-highest (c .before .before .visit-all .ensures .0) (rw (c .enum-told .given .1) at (c .before .before .visit-all .ensures .1))
 
 enum-told-2 : tie.Need-enum-told-2 Inv-loop μ-loop
 enum-told-2 c = search needs
 
 returns-2 : tie.Need-returns-2 Inv-loop μ-loop
 returns-2 c =
-    let a = c .before .before .before .before .before .before .before .before .args in
-    let k = rw (c .enum-told2 .given .1) at (c .before .before .pass .ensures .1) in
-    judged-higher (a .image .now) (a .board .now) (a .lines .now) (a .stored .now) (a .volts .now) (c .before .before .pass .last .1 .1 .1 .1 .1 .0) (c .before .before .pass .ensures .0) (k .0) (k .1)
+    let k = rw (c .enum-told2 .given .1) at (c .before .before .visit-all .ensures .1) in
+    judged-higher (c .before .before .visit-all .ensures .0) (k .0) (k .1)
 
 enum-told-3 : tie.Need-enum-told-3 Inv-loop μ-loop
 enum-told-3 c = search needs
 
 loop-less : tie.Need-loop-less Inv-loop μ-loop
-loop-less c = rw (c .enum-told3 .given .1) at (c .before .before .pass .ensures .1)
+loop-less c = rw (c .enum-told3 .given .1) at (c .before .before .visit-all .ensures .1)
 
 loop-again : tie.Need-loop-again Inv-loop μ-loop
-loop-again c = c .before .before .pass .ensures .0
+loop-again c = c .before .before .visit-all .ensures .0
 
 pub certify-spec : {M : Type 1} → statement M
 certify-spec =
@@ -57,7 +53,7 @@ certify-spec =
     μ-loop
     lift-requires
     loop-holds
-    pass-requires
+    visit-all-requires
     enum-told
     returns
     enum-told-2

@@ -1,18 +1,14 @@
-use mathlib.Core.Path.{_≡_, refl, sym, _∙_, ap, subst}
-use mathlib.Core.Bool.{true, false}
-use Prim.Native.Nat.{ℕ, suc, _+_, _-_, _≤_, _<_}
+use mathlib.Core.Path.{_≡_, sym, _∙_}
+use Prim.Native.Nat.{ℕ, _+_, _-_, _≤_, _<_}
 use native.Mathlib.Omega.{arith}
 use native.Mathlib.Numerals.{add-one}
-use lib.IntN.{ℤ, pos, natAbs}
-use lib.Signed.{_<ℤ_}
+use lib.IntN.{natAbs}
 use mir.Syntax.{w64}
 use mir.Val.{toZ, ofZ}
 use borrow.Author.Count.{below-more}
-use borrow.Author.Tests.{leb-true, leb-false, not-true, not-false}
-use Rattle.units.specs.Voltage.{voltageLimit, driveLimit, InDrive}
-use Rattle.units.proofs.Integers.{ltZ-true, ltZ-false}
+use borrow.Author.Tests.{leb-true, leb-false}
+use Rattle.units.specs.Voltage.{driveLimit, InDrive}
 use Rattle.network.specs.Network.{reading}
-use Rattle.circuit.specs.Board.{nodesOn, drivenOn}
 use Rattle.solve.specs.Answer.{drivesAt}
 use borrow.Author.Needs.{needs}
 use Rattle.solve.proofs.sample.drives_legal.Statement.{statement}

@@ -1,39 +1,37 @@
-use mathlib.Core.Path.{_≡_, refl, sym, _∙_, ap}
-use mathlib.Core.Bool.{true, false}
-use Prim.Native.Nat.{ℕ, _<_}
-use native.Mathlib.Omega.{arith}
+use mathlib.Core.Path.{_≡_, refl, sym, _∙_}
+use Prim.Native.Nat.{_<_}
 use lib.IntN.{ℤ, pos, natAbs, _-ℤ_}
-use lib.ListN.{length, getD}
 use lib.Signed.{_<ℤ_}
-use mir.Syntax.{w64}
-use mir.Val.{toZ, ofZ}
-use borrow.Author.Needs.{needs}
 use borrow.Author.Tests.{leb-true, leb-false}
 use Rattle.units.specs.Integer.{roundedUp}
 use Rattle.units.specs.Voltage.{voltageLimit}
 use Rattle.units.proofs.Integers.{leZ-true, leZ-false}
 use Rattle.network.specs.Network.{reading, net}
-use Rattle.circuit.specs.Board.{networkOn}
+use Rattle.circuit.specs.Board.{networkOn, steepestOn}
 use Rattle.solve.proofs.StepLaws.{net-small, steep-some, steep-fits, step-lowered, step-out}
+use native.Mathlib.Omega.{arith}
+use borrow.Author.Needs.{needs}
+use mir.Syntax.{w64}
+use mir.Val.{toZ, ofZ}
 use Rattle.solve.proofs.settle.step.Statement.{statement}
 use Rattle.solve.proofs.settle.step.Tie as tie
 
 -- the node has a place in the array
 place : (c : tie.Start) → c .args .i < 16
-place c = omega (arith, c .pre .0 .evaluable .ready .limits .few-nodes, c .pre .1 .1)
+place c = omega (arith, c .pre .0 .evaluable .ready .laid .limits .few-nodes, c .pre .1 .1)
 
 -- the node's net current
 f : tie.Start → ℤ
-f c = net 1 (networkOn (c .args .image .now) (c .args .board .now)) (reading (c .args .stored .now)) (reading (c .args .volts .now)) (c .args .i)
+f c = net 1 (networkOn (c .args .board .now) (c .args .stretches .now)) (reading (c .args .stored .now)) (reading (c .args .volts .now)) (c .args .i)
 
-at-net : (c : tie.After-net-current) → toZ w64 (ofZ w64 (c .net-current .result)) ≡ f (c .before .before .before)
+at-net : (c : tie.After-net-current) → toZ w64 (ofZ w64 (c .net-current .result)) ≡ f (c .before .before)
 unfolding f
 at-net c =
     let e : toZ w64 (ofZ w64 (c .net-current .result)) ≡ c .net-current .result = search needs in
     e ∙ c .net-current .ensures
 
 net-current-requires : tie.Need-net-current-requires
-net-current-requires c κs = (c .before .before .pre .0 .evaluable, c .before .before .pre .1 .1)
+net-current-requires c κs = (c .before .pre .0 .evaluable, c .before .pre .1 .1)
 
 at-most-requires : tie.Need-at-most-requires
 at-most-requires c κs = search needs
@@ -42,69 +40,55 @@ returns : tie.Need-returns
 unfolding f
 returns c = (refl, leZ-true _ _ (sym (rw (at-net (c .before .before)) at (c .before .at-most .ensures)) ∙ c .if1 .taken))
 
-high : (c : tie.Else1) → pos 0 <ℤ f (c .before .before .before .before .before)
+high : (c : tie.Else1) → pos 0 <ℤ f (c .before .before .before .before)
 high c = leZ-false _ _ (sym (rw (at-net (c .before .before)) at (c .before .at-most .ensures)) ∙ c .if1 .left)
 
 mul-lower-by : tie.Need-mul-lower-by
-mul-lower-by c = record { fits = omega (arith, place (c .before .before .before .before .before)) }
+mul-lower-by c = record { fits = omega (arith, place (c .before .before .before .before)) }
 
 element-copy-out-lower-by : tie.Need-element-copy-out-lower-by
-element-copy-out-lower-by c = place (c .before .before .before .before .before)
+element-copy-out-lower-by c = place (c .before .before .before .before)
 
-mul-lower-by-2 : tie.Need-mul-lower-by-2
-mul-lower-by-2 c = record { fits = omega (arith, place (c .before .before .before .before .before .before)) }
-
-element-copy-out-lower-by-2 : tie.Need-element-copy-out-lower-by-2
-element-copy-out-lower-by-2 c = place (c .before .before .before .before .before .before)
+steepest-requires : tie.Need-steepest-requires
+steepest-requires c κs = place (c .before .before .before .before .before)
 
 -- the node's voltage
-at-node : (c : tie.After-lower-by-arg2) → toZ w64 (ofZ w64 (reading (c .before .before .before .before .before .before .before .args .volts .now) (c .before .before .before .before .before .before .before .args .i))) ≡ reading (c .before .before .before .before .before .before .before .args .volts .now) (c .before .before .before .before .before .before .before .args .i)
+at-node : (c : tie.After-steepest) → toZ w64 (ofZ w64 (reading (c .before .before .before .before .before .before .args .volts .now) (c .before .before .before .before .before .before .args .i))) ≡ reading (c .before .before .before .before .before .before .args .volts .now) (c .before .before .before .before .before .before .args .i)
 at-node c = search needs
 
 lower-by-requires : tie.Need-lower-by-requires
 unfolding f
 lower-by-requires c κs =
-    let s = c .before .before .before .before .before .before .before in
-    let a = s .args in
-    rw (at-node c, at-net (c .before .before .before .before)) (
-      s .pre .0 .evaluable .ranged (a .i) (s .pre .1 .1),
-      net-small (a .image .now) (a .board .now) (a .lines .now) (a .stored .now) (a .volts .now) (a .steep .now) (a .i) (s .pre .0) (s .pre .1),
-      steep-some (a .image .now) (a .board .now) (a .lines .now) (a .stored .now) (a .volts .now) (a .steep .now) (a .i) (s .pre .0) (s .pre .1),
-      steep-fits (a .image .now) (a .board .now) (a .lines .now) (a .stored .now) (a .volts .now) (a .steep .now) (a .i) (s .pre .0) (s .pre .1),
-    )
+    let s = c .before .before .before .before .before .before in
+    let i = s .args .i in
+    rw (at-node c, at-net (c .before .before .before .before), c .steepest .ensures)
+    (s .pre .0 .evaluable .ranged i (s .pre .1 .1), net-small (s .pre .0) i (s .pre .1), steep-some (s .pre .0) i (s .pre .1), steep-fits (s .pre .0) i (s .pre .1))
 
 -- where the step leads
-led : (c : tie.After-lower-by) → toZ w64 (ofZ w64 (c .lower-by .result)) ≡ reading (c .before .before .before .before .before .before .before .before .args .volts .now) (c .before .before .before .before .before .before .before .before .args .i) -ℤ pos (roundedUp (natAbs (f (c .before .before .before .before .before .before .before .before))) (getD (c .before .before .before .before .before .before .before .before .args .steep .now) (c .before .before .before .before .before .before .before .before .args .i) 0))
-led c =
+there : (c : tie.After-lower-by) → toZ w64 (ofZ w64 (c .lower-by .result)) ≡ reading (c .before .before .before .before .before .before .before .args .volts .now) (c .before .before .before .before .before .before .before .args .i) -ℤ pos (roundedUp (natAbs (f (c .before .before .before .before .before .before .before))) (steepestOn (c .before .before .before .before .before .before .before .args .board .now) (c .before .before .before .before .before .before .before .args .i)))
+there c =
     let e : toZ w64 (ofZ w64 (c .lower-by .result)) ≡ c .lower-by .result = search needs in
-    e ∙ (rw (at-node (c .before), at-net (c .before .before .before .before .before)) at (c .lower-by .ensures))
+    e ∙ (rw (at-node (c .before), at-net (c .before .before .before .before .before), c .before .steepest .ensures) at (c .lower-by .ensures))
 
 in-range-requires : tie.Need-in-range-requires
 in-range-requires c κs = search needs
 
 mul-v : tie.Need-mul-v
-mul-v c = record { fits = omega (arith, place (c .before .before .before .before .before .before .before .before .before .before)) }
+mul-v c = record { fits = omega (arith, place (c .before .before .before .before .before .before .before .before .before)) }
 
 element-set-from-v : tie.Need-element-set-from-v
-element-set-from-v c = place (c .before .before .before .before .before .before .before .before .before .before)
+element-set-from-v c = place (c .before .before .before .before .before .before .before .before .before)
 
 returns-2 : tie.Need-returns-2
 unfolding f
-returns-2 c =
-    let s = c .before .before .before .before .before .before .before .before .before .before in
-    let a = s .args in
-    step-lowered (a .image .now) (a .board .now) (a .lines .now) (a .stored .now) (a .volts .now) (a .steep .now) (a .i) (s .pre .0) (s .pre .1)
-    (high (c .before .before .before .before .before)) _ (led (c .before .before))
-    (leb-true _ _ (sym (c .before .in-range .ensures) ∙ c .if2 .taken))
+returns-2 c = let s = c .before .before .before .before .before .before .before .before .before in step-lowered (s .pre .0) (s .args .i) (s .pre .1) (high (c .before .before .before .before .before)) (there (c .before .before)) (leb-true _ _ (sym (c .before .in-range .ensures) ∙ c .if2 .taken))
 
 returns-3 : tie.Need-returns-3
 unfolding f
 returns-3 c =
-    let s = c .before .before .before .before .before .before .before .before .before .before in
-    let a = s .args in
-    step-out (a .image .now) (a .board .now) (a .lines .now) (a .stored .now) (a .volts .now) (a .steep .now) (a .i) (s .pre .0) (s .pre .1)
-    (high (c .before .before .before .before .before)) _ (led (c .before .before))
-    (λ inside. let h : voltageLimit < natAbs (toZ w64 (ofZ w64 (c .before .before .lower-by .result))) = leb-false _ _ (sym (c .before .in-range .ensures) ∙ c .if2 .left) in omega arith)
+    let s = c .before .before .before .before .before .before .before .before .before in
+    let h : voltageLimit < natAbs (toZ w64 (ofZ w64 (c .before .before .lower-by .result))) = leb-false _ _ (sym (c .before .in-range .ensures) ∙ c .if2 .left) in
+    step-out (s .pre .0) (s .args .i) (s .pre .1) (high (c .before .before .before .before .before)) (there (c .before .before)) (λ inside. omega arith)
 
 pub step-spec : {M : Type 1} → statement M
 step-spec =
@@ -115,8 +99,7 @@ step-spec =
     returns
     mul-lower-by
     element-copy-out-lower-by
-    mul-lower-by-2
-    element-copy-out-lower-by-2
+    steepest-requires
     lower-by-requires
     in-range-requires
     mul-v

@@ -2,7 +2,7 @@ use mathlib.Core.Path.{refl}
 use native.Mathlib.Omega.{arith}
 use lib.ListN.{length-set}
 use borrow.Author.Needs.{needs}
-use Rattle.units.specs.Bytes.{stored}
+use Rattle.units.specs.Bytes.{written}
 use Rattle.units.proofs.bytes.put_u16.Statement.{statement}
 use Rattle.units.proofs.bytes.put_u16.Tie as tie
 use Rattle.units.proofs.bytes.put_u16.Reads as reads
@@ -34,7 +34,7 @@ same-length c = search needs
 
 -- src/bytes.rt:77:1
 returns : tie.Need-returns
-unfolding stored
+unfolding written
 returns c = refl
 
 pub put-u16-spec : {M : Type 1} → statement M

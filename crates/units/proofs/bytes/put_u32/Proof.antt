@@ -1,6 +1,6 @@
 use mathlib.Core.Path.{_≡_, sym, _∙_}
 use borrow.Author.Needs.{needs}
-use Rattle.units.proofs.LittleEndian.{stored-both}
+use Rattle.units.proofs.LittleEndian.{written-both}
 use Rattle.units.proofs.bytes.put_u32.Statement.{statement}
 use Rattle.units.proofs.bytes.put_u32.Tie as tie
 use Rattle.units.proofs.bytes.put_u32.Reads as reads
@@ -28,7 +28,7 @@ returns : tie.Need-returns
 returns c =
     let b = c .before .before in
     let a = b .before .before .before .before in
-    (rw (a .put-u16 .ensures) at (b .put-u162 .ensures)) ∙ sym (stored-both 2 2 _ _ _)
+    (rw (a .put-u16 .ensures) at (b .put-u162 .ensures)) ∙ sym (written-both 2 2 _ _ _)
 
 pub put-u32-spec : {M : Type 1} → statement M
 put-u32-spec =

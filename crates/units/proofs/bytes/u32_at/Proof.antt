@@ -1,5 +1,5 @@
 use borrow.Author.Needs.{needs}
-use Rattle.units.proofs.LittleEndian.{holds-both}
+use Rattle.units.proofs.LittleEndian.{spells-both}
 use Rattle.units.proofs.bytes.u32_at.Statement.{statement}
 use Rattle.units.proofs.bytes.u32_at.Tie as tie
 use Rattle.units.proofs.bytes.u32_at.Reads as reads
@@ -28,7 +28,7 @@ add-result c = search needs
 
 -- src/bytes.rt:24:1
 returns : tie.Need-returns
-returns c = holds-both 2 2 _ _ _ _ (c .before .u16-at .ensures) (c .u16-at2 .ensures)
+returns c = spells-both 2 2 _ _ _ _ (c .before .u16-at .ensures) (c .u16-at2 .ensures)
 
 pub u32-at-spec : {M : Type 1} → statement M
 u32-at-spec =

@@ -1,5 +1,5 @@
 use borrow.Author.Needs.{needs}
-use Rattle.units.proofs.LittleEndian.{holds-both}
+use Rattle.units.proofs.LittleEndian.{spells-both}
 use Rattle.units.proofs.bytes.u64_at.Statement.{statement}
 use Rattle.units.proofs.bytes.u64_at.Tie as tie
 use Rattle.units.proofs.bytes.u64_at.Reads as reads
@@ -28,7 +28,7 @@ add-result c = search needs
 
 -- src/bytes.rt:31:1
 returns : tie.Need-returns
-returns c = holds-both 4 4 _ _ _ _ (c .before .u32-at .ensures) (c .u32-at2 .ensures)
+returns c = spells-both 4 4 _ _ _ _ (c .before .u32-at .ensures) (c .u32-at2 .ensures)
 
 pub u64-at-spec : {M : Type 1} → statement M
 u64-at-spec =

@@ -1,0 +1,183 @@
+use mathlib.Core.Path.{_≡_, refl, sym, _∙_, ap}
+use Prim.Native.Nat.{ℕ, _+_, _*_, _-_, _≤_, _<_}
+use native.Mathlib.Omega.{arith}
+use lib.IntN.{ℤ, pos}
+use lib.ListN.{length, getD, List·getD-eq-default}
+use mir.Syntax.{w32, w64}
+use mir.Val.{toZ, ofZ}
+use borrow.Author.Needs.{needs}
+use Rattle.network.specs.Network.{reading}
+use Rattle.circuit.specs.Stretch.{stretchOf, slopesTo, breakpointsTo, rowNumber, AtZero, Filled}
+use Rattle.circuit.proofs.StretchLaws.{stretch-there}
+use Rattle.circuit.proofs.CurveLaws.{few, slope-small, slope-to, breakpoint-to, breakpoints-to, zero-none, zero-more, row-at-zero, filled-none, filled-more, filled-all}
+use Rattle.circuit.proofs.stretches.fill.Statement.{statement}
+use Rattle.circuit.proofs.stretches.fill.Tie as tie
+
+abbrev Inv-loop : tie.InvT-loop
+Inv-loop slopes breakpoints m first stretches₀ line₀ i₀ stretches line i =
+    (i ≤ m) × AtZero (slopesTo slopes m) (breakpointsTo breakpoints m) i (toZ w64 line) × Filled (slopesTo slopes m) (breakpointsTo breakpoints m) stretches₀ first i stretches
+
+abbrev μ-loop : tie.MeasureT-loop
+μ-loop slopes breakpoints m first stretches₀ line₀ i₀ stretches line i = m - i
+
+-- the stretch of zero volts is one of the curve's
+zero-there : (c : tie.After-zero-stretch Inv-loop μ-loop) → c .zero-stretch .result ≤ c .before .args .m
+zero-there c =
+    let s = c .before in
+    omega (arith, c .zero-stretch .ensures, stretch-there (breakpointsTo (s .args .breakpoints .now) (s .args .m)) (pos 0), breakpoints-to (s .args .slopes .now) (s .args .breakpoints .now) (s .args .m))
+
+at-offset : (c : tie.After-offset Inv-loop μ-loop) → toZ w64 (ofZ w64 (c .offset .result)) ≡ c .offset .result
+at-offset c = search needs
+
+zero-stretch-requires : tie.Need-zero-stretch-requires Inv-loop μ-loop
+zero-stretch-requires c κs = few _ _ _ (c .pre .0)
+
+offset-requires : tie.Need-offset-requires Inv-loop μ-loop
+offset-requires c κs = (c .before .pre .0, zero-there c)
+
+minus-requires : tie.Need-minus-requires Inv-loop μ-loop
+minus-requires c κs = let s = c .before .before in rw (at-offset c) (omega (arith, c .offset .ensures .small, zero-there (c .before), few _ _ _ (s .pre .0)))
+
+loop-holds : tie.Need-loop-holds Inv-loop μ-loop
+loop-holds c =
+    let d = c .before in
+    let s = d .before .before in
+    let e : toZ w64 (ofZ w64 (c .minus .result)) ≡ c .minus .result = search needs in
+    let is = e ∙ (rw (at-offset d) at (c .minus .ensures)) in
+    (search needs, rw is (zero-none _ _ (d .before .zero-stretch .result) (d .offset .result) (omega (arith, zero-there (d .before), few _ _ _ (s .pre .0))) (d .before .zero-stretch .ensures) (d .offset .ensures)), filled-none _ _ _ _)
+
+-- what is known of a turn: there is a row for stretch i
+room : (c : tie.In-loop Inv-loop μ-loop) → (c .before .loop .i < c .before .before .before .before .before .args .m) × (c .before .before .before .before .before .args .m ≤ 16)
+room c = let s = c .before .before .before .before .before in (c .loop-test .taken, few _ _ _ (s .pre .0))
+
+add-put : tie.Need-add-put Inv-loop μ-loop
+add-put c = let s = c .before .before .before .before .before .before in record { fits = omega (arith, room (c .before), s .pre .1) }
+
+mul-wide-signed : tie.Need-mul-wide-signed Inv-loop μ-loop
+mul-wide-signed c = record { fits = omega (arith, room (c .before)) }
+
+element-copy-out-wide-signed : tie.Need-element-copy-out-wide-signed Inv-loop μ-loop
+element-copy-out-wide-signed c = omega (arith, room (c .before))
+
+wide-signed-requires : tie.Need-wide-signed-requires Inv-loop μ-loop
+wide-signed-requires c κs = search needs
+
+mul-wide : tie.Need-mul-wide Inv-loop μ-loop
+mul-wide c = record { fits = omega (arith, room (c .before .before .before)) }
+
+element-copy-out-wide : tie.Need-element-copy-out-wide Inv-loop μ-loop
+element-copy-out-wide c = omega (arith, room (c .before .before .before))
+
+wide-requires : tie.Need-wide-requires Inv-loop μ-loop
+wide-requires c κs = search needs
+
+put-requires : tie.Need-put-requires Inv-loop μ-loop
+put-requires c κs =
+    let l = c .before .before .before .before .before in
+    let s = l .before .before .before .before .before in
+    (omega (arith, room l, s .pre .1), omega (arith, c .wide .ensures .1))
+
+step-requires : tie.Need-step-requires Inv-loop μ-loop
+step-requires c κs =
+    let l = c .before .before .before .before .before .before in
+    let s = l .before .before .before .before .before in
+    (s .pre .0, room l .0)
+
+plus-requires : tie.Need-plus-requires Inv-loop μ-loop
+plus-requires c κs =
+    let l = c .before .before .before .before .before .before .before in
+    let e : toZ w64 (ofZ w64 (c .step .result)) ≡ c .step .result = search needs in
+    rw e (omega (arith, l .before .loop .inv .1 .small, c .step .ensures .small, room l))
+
+add-i : tie.Need-add-i Inv-loop μ-loop
+add-i c = search needs
+
+loop-less : tie.Need-loop-less Inv-loop μ-loop
+loop-less c = search needs
+
+-- a row's numbers, as the code has them
+at-breakpoint : (c : tie.After-wide-signed Inv-loop μ-loop) → toZ w64 (ofZ w64 (c .wide-signed .result)) ≡ rowNumber (slopesTo (c .before .before .before .before .before .before .before .before .args .slopes .now) (c .before .before .before .before .before .before .before .before .args .m)) (breakpointsTo (c .before .before .before .before .before .before .before .before .args .breakpoints .now) (c .before .before .before .before .before .before .before .before .args .m)) (c .before .before .before .before .loop .i) 0
+unfolding rowNumber
+at-breakpoint c =
+    let l = c .before .before .before in
+    let s = l .before .before .before .before .before in
+    let z = reading (s .args .breakpoints .now) (l .before .loop .i) in
+    let e : toZ w64 (ofZ w64 (c .wide-signed .result)) ≡ c .wide-signed .result = search needs in
+    let f : toZ w32 (ofZ w32 z) ≡ z = search needs in
+    e ∙ c .wide-signed .ensures ∙ f ∙ sym (breakpoint-to (s .args .slopes .now) (s .args .breakpoints .now) (s .args .m) (l .before .loop .i) (room l .0))
+
+loop-again : tie.Need-loop-again Inv-loop μ-loop
+unfolding rowNumber
+loop-again c =
+    let p = c .before .before in
+    let l = p .before .before .before .before .before .before in
+    let s = l .before .before .before .before .before in
+    let n = l .before .loop in
+    let e : toZ w64 (ofZ w64 (c .plus .result)) ≡ c .plus .result = search needs in
+    let f : toZ w64 (ofZ w64 (c .before .step .result)) ≡ c .before .step .result = search needs in
+    let is = e ∙ (rw f at (c .plus .ensures)) in
+    let bs = breakpoints-to (s .args .slopes .now) (s .args .breakpoints .now) (s .args .m) in (
+      omega (arith, room l),
+      rw is (zero-more _ _ (n .i) (toZ w64 (n .line)) (c .before .step .result) (n .inv .1) (c .before .step .ensures)),
+      rw (p .put .ensures) (filled-more _ _ _ _ (n .i) (n .stretches) _ _ _ (omega (arith, room l, s .pre)) (at-breakpoint (p .before .before .before)) (ap pos (p .before .wide .ensures .0 ∙ sym (slope-to (s .args .slopes .now) (s .args .breakpoints .now) (s .args .m) (n .i) (omega (arith, room l))))) (row-at-zero _ _ (n .i) (toZ w64 (n .line)) (omega (arith, bs, room l)) (n .inv .1)) (n .inv .2)),
+    )
+
+add-put-2 : tie.Need-add-put-2 Inv-loop μ-loop
+add-put-2 c = let s = c .before .before .before .before .before .before in record { fits = omega (arith, s .pre .1, c .before .before .loop .inv .0) }
+
+mul-wide-2 : tie.Need-mul-wide-2 Inv-loop μ-loop
+mul-wide-2 c = let s = c .before .before .before .before .before .before in record { fits = omega (arith, few _ _ _ (s .pre .0), c .before .before .loop .inv .0) }
+
+element-copy-out-wide-2 : tie.Need-element-copy-out-wide-2 Inv-loop μ-loop
+element-copy-out-wide-2 c = let s = c .before .before .before .before .before .before in omega (arith, few _ _ _ (s .pre .0), c .before .before .loop .inv .0)
+
+wide-requires-2 : tie.Need-wide-requires-2 Inv-loop μ-loop
+wide-requires-2 c κs = search needs
+
+put-requires-2 : tie.Need-put-requires-2 Inv-loop μ-loop
+put-requires-2 c κs =
+    let l = c .before .before .before in
+    let s = l .before .before .before .before .before in
+    (omega (arith, s .pre .1, l .before .loop .inv .0), omega (arith, c .wide2 .ensures .1))
+
+returns : tie.Need-returns Inv-loop μ-loop
+unfolding rowNumber
+returns c =
+    let l = c .before .before .before .before in
+    let s = l .before .before .before .before .before in
+    let n = l .before .loop in
+    let bs = breakpoints-to (s .args .slopes .now) (s .args .breakpoints .now) (s .args .m) in
+    let e : n .i ≡ s .args .m = omega (arith, n .inv .0) in
+    let past : pos 0 ≡ reading (breakpointsTo (s .args .breakpoints .now) (s .args .m)) (n .i) = sym (List·getD-eq-default (breakpointsTo (s .args .breakpoints .now) (s .args .m)) (pos 0) (omega (arith, bs, e))) in
+    let f = filled-more (slopesTo (s .args .slopes .now) (s .args .m)) (breakpointsTo (s .args .breakpoints .now) (s .args .m)) (s .args .stretches .now) (s .args .first) (n .i) (n .stretches) (pos 0) _ _ (omega (arith, s .pre, e)) past (ap pos (c .before .wide2 .ensures .0 ∙ sym (slope-to (s .args .slopes .now) (s .args .breakpoints .now) (s .args .m) (n .i) (omega (arith, e))))) (row-at-zero _ _ (n .i) (toZ w64 (n .line)) (omega (arith, bs, e)) (n .inv .1)) (n .inv .2) in
+    filled-all _ _ _ _ (n .i) (s .args .m) _ e (rw (c .put2 .ensures) f)
+
+pub fill-spec : {M : Type 1} → statement M
+fill-spec =
+    tie.close
+    (tie.spec
+    Inv-loop
+    μ-loop
+    zero-stretch-requires
+    offset-requires
+    minus-requires
+    loop-holds
+    add-put
+    mul-wide-signed
+    element-copy-out-wide-signed
+    wide-signed-requires
+    mul-wide
+    element-copy-out-wide
+    wide-requires
+    put-requires
+    step-requires
+    plus-requires
+    add-i
+    loop-less
+    loop-again
+    add-put-2
+    mul-wide-2
+    element-copy-out-wide-2
+    wide-requires-2
+    put-requires-2
+    returns)

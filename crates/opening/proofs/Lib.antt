@@ -1,0 +1,2 @@
+pub mod BoardIs
+pub mod TableIs
