@@ -130,9 +130,9 @@ module _ (ss : List ℕ) (bs : List ℤ) where
   offset-more i o s h t = record { value = rw (t .value, h .value); small = omega (arith, abs-add o s, h .small, t .small) }
 
   -- currents at zero volts, one after the other: from the offset of zero volts' own stretch, whose line has none there
-  pub zero-none : (z : ℕ) (o : ℤ) → z ≤ 16 → z ≡ stretchOf bs (pos 0) → Offset ss bs z o → AtZero ss bs 0 (pos 0 -ℤ o)
+  pub zero-none : (o : ℤ) → stretchOf bs (pos 0) ≤ 16 → Offset ss bs (stretchOf bs (pos 0)) o → AtZero ss bs 0 (pos 0 -ℤ o)
   unfolding offset atZero
-  zero-none z o l e h = record { value = rw (h .value, e); small = omega (arith, abs-sub (pos 0) o, h .small) }
+  zero-none o few h = record { value = rw (h .value); small = omega (arith, abs-sub (pos 0) o, h .small) }
 
   pub zero-more : (i : ℕ) (r s : ℤ) → AtZero ss bs i r → Step ss bs i s → AtZero ss bs (i + 1) (r +ℤ s)
   unfolding atZero

@@ -63,33 +63,22 @@ fn step(slopes: &[u32; 17], breakpoints: &[i32; 16], m: usize, i: usize) -> i64
     signed::minus(product(wide(slopes[i]), b), product(wide(slopes[i + 1]), b))
 }
 
-// How far the line of stretch j lies above that of stretch 0 at zero volts.
-fn offset(slopes: &[u32; 17], breakpoints: &[i32; 16], m: usize, j: usize) -> i64
-    requires { ⌜ CurveInLimits (slopesTo (now slopes) m) (breakpointsTo (now breakpoints) m) × (j ≤ m) ⌝ }
-    ensures { λ r. ⌜ Offset (slopesTo (now (slopes .entry)) m) (breakpointsTo (now (breakpoints .entry)) m) j r ⌝ }
+// How far the line of zero volts' own stretch lies above that of stretch 0 at zero volts: the steps at
+// the breakpoints up to there.
+fn zero_offset(slopes: &[u32; 17], breakpoints: &[i32; 16], m: usize) -> i64
+    requires { ⌜ CurveInLimits (slopesTo (now slopes) m) (breakpointsTo (now breakpoints) m) ⌝ }
+    ensures { λ r. ⌜ Offset (slopesTo (now (slopes .entry)) m) (breakpointsTo (now (breakpoints .entry)) m) (stretchOf (breakpointsTo (now (breakpoints .entry)) m) (pos 0)) r ⌝ }
 {
     let mut sum: i64 = 0;
     let mut i: usize = 0;
-    while i < j {
+    while i < m {
+        if signed::less(0, wide_signed(breakpoints[i])) {
+            return sum;
+        }
         sum = signed::plus(sum, step(slopes, breakpoints, m, i));
         i += 1;
     }
     sum
-}
-
-// The stretch of zero volts.
-fn zero_stretch(breakpoints: &[i32; 16], m: usize) -> usize
-    requires { ⌜ m ≤ 16 ⌝ }
-    ensures { λ r. ⌜ r ≡ stretchOf (breakpointsTo (now (breakpoints .entry)) m) (pos 0) ⌝ }
-{
-    let mut j: usize = 0;
-    while j < m {
-        if signed::less(0, wide_signed(breakpoints[j])) {
-            return j;
-        }
-        j += 1;
-    }
-    j
 }
 
 // A row's three numbers.
@@ -113,10 +102,7 @@ pub fn fill(
     requires { ⌜ CurveInLimits (slopesTo (now slopes) m) (breakpointsTo (now breakpoints) m) × (first + m < rows) × (length (now stretches) ≡ stretchesSize) ⌝ }
     ensures { λ _. ⌜ Filled (slopesTo (now (slopes .entry)) m) (breakpointsTo (now (breakpoints .entry)) m) (now (stretches .entry)) first (m + 1) (now (stretches .exit)) ⌝ }
 {
-    let mut line = signed::minus(
-        0,
-        offset(slopes, breakpoints, m, zero_stretch(breakpoints, m)),
-    );
+    let mut line = signed::minus(0, zero_offset(slopes, breakpoints, m));
     let mut i: usize = 0;
     while i < m {
         put(

@@ -20,38 +20,35 @@ Inv-loop slopes breakpoints m first stretches₀ line₀ i₀ stretches line i =
 abbrev μ-loop : tie.MeasureT-loop
 μ-loop slopes breakpoints m first stretches₀ line₀ i₀ stretches line i = m - i
 
--- the stretch of zero volts is one of the curve's
-zero-there : (c : tie.After-zero-stretch Inv-loop μ-loop) → c .zero-stretch .result ≤ c .before .args .m
-zero-there c =
-    let s = c .before in
-    omega (arith, c .zero-stretch .ensures, stretch-there (breakpointsTo (s .args .breakpoints .now) (s .args .m)) (pos 0), breakpoints-to (s .args .slopes .now) (s .args .breakpoints .now) (s .args .m))
-
-at-offset : (c : tie.After-offset Inv-loop μ-loop) → toZ w64 (ofZ w64 (c .offset .result)) ≡ c .offset .result
+-- the offset that the lines begin from
+at-offset : (c : tie.After-zero-offset Inv-loop μ-loop) → toZ w64 (ofZ w64 (c .zero-offset .result)) ≡ c .zero-offset .result
 at-offset c = search needs
 
-zero-stretch-requires : tie.Need-zero-stretch-requires Inv-loop μ-loop
-zero-stretch-requires c κs = few _ _ _ (c .pre .0)
+-- the stretch of zero volts is one of the curve's
+zero-there : (c : tie.After-zero-offset Inv-loop μ-loop) → stretchOf (breakpointsTo (c .before .args .breakpoints .now) (c .before .args .m)) (pos 0) ≤ 16
+zero-there c =
+    let s = c .before in
+    omega (arith, few _ _ _ (s .pre .0), stretch-there (breakpointsTo (s .args .breakpoints .now) (s .args .m)) (pos 0), breakpoints-to (s .args .slopes .now) (s .args .breakpoints .now) (s .args .m))
 
-offset-requires : tie.Need-offset-requires Inv-loop μ-loop
-offset-requires c κs = (c .before .pre .0, zero-there c)
+zero-offset-requires : tie.Need-zero-offset-requires Inv-loop μ-loop
+zero-offset-requires c κs = c .pre .0
 
 minus-requires : tie.Need-minus-requires Inv-loop μ-loop
-minus-requires c κs = let s = c .before .before in rw (at-offset c) (omega (arith, c .offset .ensures .small, zero-there (c .before), few _ _ _ (s .pre .0)))
+minus-requires c κs = rw (at-offset c) (omega (arith, c .zero-offset .ensures .small, zero-there c))
 
 loop-holds : tie.Need-loop-holds Inv-loop μ-loop
 loop-holds c =
     let d = c .before in
-    let s = d .before .before in
     let e : toZ w64 (ofZ w64 (c .minus .result)) ≡ c .minus .result = search needs in
     let is = e ∙ (rw (at-offset d) at (c .minus .ensures)) in
-    (search needs, rw is (zero-none _ _ (d .before .zero-stretch .result) (d .offset .result) (omega (arith, zero-there (d .before), few _ _ _ (s .pre .0))) (d .before .zero-stretch .ensures) (d .offset .ensures)), filled-none _ _ _ _)
+    (search needs, rw is (zero-none _ _ (d .zero-offset .result) (zero-there d) (d .zero-offset .ensures)), filled-none _ _ _ _)
 
 -- what is known of a turn: there is a row for stretch i
-room : (c : tie.In-loop Inv-loop μ-loop) → (c .before .loop .i < c .before .before .before .before .before .args .m) × (c .before .before .before .before .before .args .m ≤ 16)
-room c = let s = c .before .before .before .before .before in (c .loop-test .taken, few _ _ _ (s .pre .0))
+room : (c : tie.In-loop Inv-loop μ-loop) → (c .before .loop .i < c .before .before .before .before .args .m) × (c .before .before .before .before .args .m ≤ 16)
+room c = let s = c .before .before .before .before in (c .loop-test .taken, few _ _ _ (s .pre .0))
 
 add-put : tie.Need-add-put Inv-loop μ-loop
-add-put c = let s = c .before .before .before .before .before .before in record { fits = omega (arith, room (c .before), s .pre .1) }
+add-put c = let s = c .before .before .before .before .before in record { fits = omega (arith, room (c .before), s .pre .1) }
 
 mul-wide-signed : tie.Need-mul-wide-signed Inv-loop μ-loop
 mul-wide-signed c = record { fits = omega (arith, room (c .before)) }
@@ -74,13 +71,13 @@ wide-requires c κs = search needs
 put-requires : tie.Need-put-requires Inv-loop μ-loop
 put-requires c κs =
     let l = c .before .before .before .before .before in
-    let s = l .before .before .before .before .before in
+    let s = l .before .before .before .before in
     (omega (arith, room l, s .pre .1), omega (arith, c .wide .ensures .1))
 
 step-requires : tie.Need-step-requires Inv-loop μ-loop
 step-requires c κs =
     let l = c .before .before .before .before .before .before in
-    let s = l .before .before .before .before .before in
+    let s = l .before .before .before .before in
     (s .pre .0, room l .0)
 
 plus-requires : tie.Need-plus-requires Inv-loop μ-loop
@@ -96,11 +93,11 @@ loop-less : tie.Need-loop-less Inv-loop μ-loop
 loop-less c = search needs
 
 -- a row's numbers, as the code has them
-at-breakpoint : (c : tie.After-wide-signed Inv-loop μ-loop) → toZ w64 (ofZ w64 (c .wide-signed .result)) ≡ rowNumber (slopesTo (c .before .before .before .before .before .before .before .before .args .slopes .now) (c .before .before .before .before .before .before .before .before .args .m)) (breakpointsTo (c .before .before .before .before .before .before .before .before .args .breakpoints .now) (c .before .before .before .before .before .before .before .before .args .m)) (c .before .before .before .before .loop .i) 0
+at-breakpoint : (c : tie.After-wide-signed Inv-loop μ-loop) → toZ w64 (ofZ w64 (c .wide-signed .result)) ≡ rowNumber (slopesTo (c .before .before .before .before .before .before .before .args .slopes .now) (c .before .before .before .before .before .before .before .args .m)) (breakpointsTo (c .before .before .before .before .before .before .before .args .breakpoints .now) (c .before .before .before .before .before .before .before .args .m)) (c .before .before .before .before .loop .i) 0
 unfolding rowNumber
 at-breakpoint c =
     let l = c .before .before .before in
-    let s = l .before .before .before .before .before in
+    let s = l .before .before .before .before in
     let z = reading (s .args .breakpoints .now) (l .before .loop .i) in
     let e : toZ w64 (ofZ w64 (c .wide-signed .result)) ≡ c .wide-signed .result = search needs in
     let f : toZ w32 (ofZ w32 z) ≡ z = search needs in
@@ -111,7 +108,7 @@ unfolding rowNumber
 loop-again c =
     let p = c .before .before in
     let l = p .before .before .before .before .before .before in
-    let s = l .before .before .before .before .before in
+    let s = l .before .before .before .before in
     let n = l .before .loop in
     let e : toZ w64 (ofZ w64 (c .plus .result)) ≡ c .plus .result = search needs in
     let f : toZ w64 (ofZ w64 (c .before .step .result)) ≡ c .before .step .result = search needs in
@@ -123,13 +120,13 @@ loop-again c =
     )
 
 add-put-2 : tie.Need-add-put-2 Inv-loop μ-loop
-add-put-2 c = let s = c .before .before .before .before .before .before in record { fits = omega (arith, s .pre .1, c .before .before .loop .inv .0) }
+add-put-2 c = let s = c .before .before .before .before .before in record { fits = omega (arith, s .pre .1, c .before .before .loop .inv .0) }
 
 mul-wide-2 : tie.Need-mul-wide-2 Inv-loop μ-loop
-mul-wide-2 c = let s = c .before .before .before .before .before .before in record { fits = omega (arith, few _ _ _ (s .pre .0), c .before .before .loop .inv .0) }
+mul-wide-2 c = let s = c .before .before .before .before .before in record { fits = omega (arith, few _ _ _ (s .pre .0), c .before .before .loop .inv .0) }
 
 element-copy-out-wide-2 : tie.Need-element-copy-out-wide-2 Inv-loop μ-loop
-element-copy-out-wide-2 c = let s = c .before .before .before .before .before .before in omega (arith, few _ _ _ (s .pre .0), c .before .before .loop .inv .0)
+element-copy-out-wide-2 c = let s = c .before .before .before .before .before in omega (arith, few _ _ _ (s .pre .0), c .before .before .loop .inv .0)
 
 wide-requires-2 : tie.Need-wide-requires-2 Inv-loop μ-loop
 wide-requires-2 c κs = search needs
@@ -137,14 +134,14 @@ wide-requires-2 c κs = search needs
 put-requires-2 : tie.Need-put-requires-2 Inv-loop μ-loop
 put-requires-2 c κs =
     let l = c .before .before .before in
-    let s = l .before .before .before .before .before in
+    let s = l .before .before .before .before in
     (omega (arith, s .pre .1, l .before .loop .inv .0), omega (arith, c .wide2 .ensures .1))
 
 returns : tie.Need-returns Inv-loop μ-loop
 unfolding rowNumber
 returns c =
     let l = c .before .before .before .before in
-    let s = l .before .before .before .before .before in
+    let s = l .before .before .before .before in
     let n = l .before .loop in
     let bs = breakpoints-to (s .args .slopes .now) (s .args .breakpoints .now) (s .args .m) in
     let e : n .i ≡ s .args .m = omega (arith, n .inv .0) in
@@ -158,8 +155,7 @@ fill-spec =
     (tie.spec
     Inv-loop
     μ-loop
-    zero-stretch-requires
-    offset-requires
+    zero-offset-requires
     minus-requires
     loop-holds
     add-put
