@@ -3,7 +3,7 @@
  * One function. It keeps no memory of its own: no heap, no globals, no locks, so that it may be called from any number of
  * threads or interrupt levels at once, each with its own buffers. No pointer needs any alignment. The buffers must not overlap,
  * except that image and drives, which are only read, may. A pointer whose length is 0 may not be null: pass any valid address.
- * Stack: 23,808 bytes, measured on a 64-bit Arm over all circuits of bench/cases; allow 24 KiB.
+ * Stack: 23,792 bytes, measured on a 64-bit Arm over all circuits of bench/cases; allow 24 KiB.
  */
 #ifndef KRTOVALIN_H
 #define KRTOVALIN_H
