@@ -1,4 +1,5 @@
 pub mod CallLaws
+pub mod Cut
 pub mod DriveLaws
 pub mod OneOutcome
 pub mod PlayLaws

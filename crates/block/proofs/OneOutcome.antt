@@ -148,35 +148,36 @@ module _ (parts : Parts) (x : State) (n : ℕ) (drives outputs : List ℕ) (wire
       record { number = refl; count = refl; state = q .0; bytes = q .1 }
 
 -- of any image
-module _ (image : List ℕ) (x : State) (n : ℕ) (drives outputs : List ℕ) where
-  abbrev P : ℕ → ℕ → State → List ℕ → Type 0
-  P = Plays image x n drives outputs
-
+module _ (image : List ℕ) where
   -- the two openings of an image agree
-  parts-once : {p q : Parts} → openingOf image ≡ opened p → openingOf image ≡ opened q → q ≡ p
+  pub parts-once : {p q : Parts} → openingOf image ≡ opened p → openingOf image ≡ opened q → q ≡ p
   parts-once a b = cc
 
   number-once : {k m : Number} → openingOf image ≡ refused k → openingOf image ≡ refused m → k ≡ m
   number-once a b = cc
 
-  clash : {k : Number} {p : Parts} → openingOf image ≡ refused k → openingOf image ≡ opened p → ⊥
+  pub clash : {k : Number} {p : Parts} → openingOf image ≡ refused k → openingOf image ≡ opened p → ⊥
   clash a b = let z : _≡_ {A = ℕ} 0 1 = cc in omega arith
 
   -- one setting, two verdicts on the conductances
-  torn : {p q : Parts} → openingOf image ≡ opened p → openingOf image ≡ opened q → conductancesFit p plain ≡ false → conductancesFit q plain ≡ true → ⊥
+  pub torn : {p q : Parts} → openingOf image ≡ opened p → openingOf image ≡ opened q → conductancesFit p plain ≡ false → conductancesFit q plain ≡ true → ⊥
   torn a b f t = let e = sym f ∙ ap (λ (r : Parts). conductancesFit r plain) (sym (parts-once a b)) ∙ t in let z : _≡_ {A = ℕ} 0 1 = cc in omega arith
 
+module _ (image : List ℕ) (x : State) (n : ℕ) (drives outputs : List ℕ) where
+  abbrev P : ℕ → ℕ → State → List ℕ → Type 0
+  P = Plays image x n drives outputs
+
   pub plays-once : {n₁ n₂ c₁ c₂ : ℕ} {y₁ y₂ : State} {o₁ o₂ : List ℕ} → P n₁ c₁ y₁ o₁ → P n₂ c₂ y₂ o₂ → SamePlay n₁ n₂ c₁ c₂ y₁ y₂ o₁ o₂
-  plays-once (image-refused a) (image-refused b) = record { number = ap numberOf (number-once a b); count = refl; state = refl; bytes = refl }
-  plays-once (image-refused a) (conductance-refused b f) = absurd (clash a b)
-  plays-once (image-refused a) (plays-on b t p) = absurd (clash a b)
-  plays-once (conductance-refused a f) (image-refused b) = absurd (clash b a)
+  plays-once (image-refused a) (image-refused b) = record { number = ap numberOf (number-once image a b); count = refl; state = refl; bytes = refl }
+  plays-once (image-refused a) (conductance-refused b f) = absurd (clash image a b)
+  plays-once (image-refused a) (plays-on b t p) = absurd (clash image a b)
+  plays-once (conductance-refused a f) (image-refused b) = absurd (clash image b a)
   plays-once (conductance-refused a f) (conductance-refused b g) = same-play
-  plays-once (conductance-refused a f) (plays-on b t p) = absurd (torn a b f t)
-  plays-once (plays-on a t p) (image-refused b) = absurd (clash b a)
-  plays-once (plays-on a t p) (conductance-refused b f) = absurd (torn b a f t)
+  plays-once (conductance-refused a f) (plays-on b t p) = absurd (torn image a b f t)
+  plays-once (plays-on a t p) (image-refused b) = absurd (clash image b a)
+  plays-once (plays-on a t p) (conductance-refused b f) = absurd (torn image b a f t)
   plays-once (plays-on {parts = r} {k = k₁} {count = c₁} {y = y₁} {o = o₁} a t p) (plays-on {parts = s} {k = k₂} {count = c₂} {y = y₂} {o = o₂} b u q) =
-      on-once r x n drives outputs (parts-limits image r a t .wired) (parts-heard image r a) p (subst (λ (w : Parts). PlaysOn w x n drives outputs k₂ c₂ y₂ o₂) (parts-once a b) q)
+      on-once r x n drives outputs (parts-limits image r a t .wired) (parts-heard image r a) p (subst (λ (w : Parts). PlaysOn w x n drives outputs k₂ c₂ y₂ o₂) (parts-once image a b) q)
 
 -- the C call: its answer, every byte of state and every byte of outputs
 pub called-once : (image bytes : List ℕ) (n : ℕ) (drives outputs : List ℕ) {a₁ a₂ : ℕ} {s₁ s₂ o₁ o₂ : List ℕ} → Called image bytes n drives outputs a₁ s₁ o₁ → Called image bytes n drives outputs a₂ s₂ o₂ → (a₁ ≡ a₂) × (s₁ ≡ s₂) × (o₁ ≡ o₂)

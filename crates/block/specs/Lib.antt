@@ -1,4 +1,5 @@
 pub mod Block
 pub mod Call
+pub mod Cut
 pub mod Drives
 pub mod Playing

@@ -2,7 +2,6 @@
 use crate::drives;
 use circuit::board;
 use circuit::places;
-use guess::proposal;
 use solve::sample;
 use units::bytes;
 use units::number;
@@ -29,7 +28,7 @@ fn begin(
 {
     let mut placed = places::copied(volts);
     drives::place(drives, board::driven(board), j, &mut placed);
-    proposal::propose(board, stretches, x, &mut placed);
+    guess::propose(board, stretches, x, &mut placed);
     *volts = placed;
 }
 

@@ -3,4 +3,5 @@ pub mod BoardLaws
 pub mod BoundLaws
 pub mod CurveLaws
 pub mod Once
+pub mod PlaceLaws
 pub mod StretchLaws

@@ -1,4 +1,5 @@
 pub mod Advance
 pub mod Board
 pub mod Bound
+pub mod Places
 pub mod Stretch

@@ -2,7 +2,7 @@
 use mathlib.Core.Path.{_≡_, refl, _∙_}
 use mathlib.Core.Bool.{Bool, true, false}
 use mathlib.Core.List.{List}
-use mathlib.Core.Logic.{⊎-elim}
+use mathlib.Core.Logic.{inl, inr, ⊎-elim}
 use Prim.Native.Nat.{ℕ, suc, _+_, _≤_, _<_}
 use native.Mathlib.Omega.{arith}
 use lib.Dec.{eqb}
@@ -13,7 +13,8 @@ use borrow.Author.Tests.{eqb-true, eqb-false}
 use Rattle.units.specs.Voltage.{InRange}
 use Rattle.units.proofs.Integers.{decideN}
 use Rattle.network.specs.Network.{reading}
-use Rattle.circuit.specs.Board.{nodesOn, drivenOn, Laid}
+use Rattle.circuit.specs.Board.{nodesOn, drivenOn, Laid, Ranged}
+use Rattle.circuit.specs.Places.{Taken}
 use Rattle.circuit.proofs.BoardLaws.{few-nodes, few-elements, p-node, q-node}
 use Rattle.guess.specs.Proposal.{InPlaces, Standing, Proposed}
 
@@ -29,12 +30,6 @@ after-set P l i j v short here there = go (eqb j i) refl
 pub record StandingTo (volts : List ℤ) (i : ℕ) : Type 0 where
   pub long : length volts ≡ 16
   pub ranged : (j : ℕ) → j < i → InRange (reading volts j)
-
--- the free nodes below i do, and ground and the driven nodes stand where they stood
-pub record ProposedTo (board : List ℕ) (before after : List ℤ) (i : ℕ) : Type 0 where
-  pub long : length after ≡ 16
-  pub fixed : (j : ℕ) → j ≤ drivenOn board → reading after j ≡ reading before j
-  pub free : (j : ℕ) → drivenOn board < j → j < i → InRange (reading after j)
 
 below : (i j : ℕ) → j < i + 1 → (j ≡ i → ⊥) → j < i
 below i j l n = ⊎-elim (λ (h : suc j ≤ i). h) (λ (h : i < suc j). absurd (n (omega arith))) (decideN (suc j) i)
@@ -61,22 +56,18 @@ standing-set board volts i v place h inside =
       ranged = λ j l. after-set InRange volts i j v (omega (arith, h .long)) (λ e. inside) (λ n. h .ranged j l);
     }
 
-module _ (board : List ℕ) (before : List ℤ) where
-  pub proposed-none : length before ≡ 16 → ProposedTo board before before (drivenOn board + 1)
-  proposed-none long = record { long = long; fixed = λ j l. refl; free = λ j a b. absurd (omega arith) }
+-- free nodes taken over from nodes in range
+pub proposed-taken : (board : List ℕ) (from before after : List ℤ) → Ranged board from → Taken from (drivenOn board + 1) (nodesOn board + 1) before after → Proposed board before after
+proposed-taken board from before after ranged t =
+    record {
+      long = t .long;
+      elsewhere = λ j h. t .elsewhere j (⊎-elim (λ (a : j ≤ drivenOn board). inl (omega arith)) (λ (b : nodesOn board < j). inr (omega arith)) h);
+      free = λ j a b. rw (t .taken j (omega arith) (omega arith)) (ranged j (omega arith));
+    }
 
-  module _ (after : List ℤ) (i : ℕ) (h : ProposedTo board before after i) where
-    pub proposed-more : (v : ℤ) → drivenOn board < i → i < 16 → InRange v → ProposedTo board before (set after i v) (i + 1)
-    proposed-more v past place inside =
-        let short : i < length after = omega (arith, h .long) in
-        record {
-          long = length-set after i v ∙ h .long;
-          fixed = λ j l. after-set (λ (z : ℤ). z ≡ reading before j) after i j v short (λ e. absurd (omega (arith, e))) (λ n. h .fixed j l);
-          free = λ j a b. after-set InRange after i j v short (λ e. inside) (λ n. h .free j a (below i j b n));
-        }
-
-    pub proposed-all : nodesOn board < i → Proposed board before after
-    proposed-all past = record { long = h .long; fixed = h .fixed; free = λ j a b. h .free j a (omega arith) }
+-- nothing is proposed where no node is free
+pub proposed-nothing : (board : List ℕ) (volts : List ℤ) → nodesOn board ≡ drivenOn board → Proposed board volts volts
+proposed-nothing board volts none = record { long = refl; elsewhere = λ j h. refl; free = λ j a b. absurd (omega (arith, none)) }
 
 pub in-places : (board : List ℕ) (stretches : List ℤ) → Laid board stretches → InPlaces board
 in-places board stretches laid =

@@ -1,6 +1,7 @@
 -- What a proposal is: voltages in range at the free nodes, and nothing changed elsewhere. Assumes nothing.
 use mathlib.Core.Path.{_≡_}
 use mathlib.Core.List.{List}
+use mathlib.Core.Logic.{_⊎_}
 use Prim.Native.Nat.{ℕ, _≤_, _<_}
 use lib.IntN.{ℤ}
 use lib.ListN.{length}
@@ -21,10 +22,10 @@ pub record Standing (board : List ℕ) (volts : List ℤ) : Type 0 where
   pub long : length volts ≡ 16
   pub ranged : Ranged board volts
 
--- the free nodes stand in range; ground and the driven nodes stand where they stood
+-- the free nodes stand in range; every other place is as it was
 pub record Proposed (board : List ℕ) (before after : List ℤ) : Type 0 where
-  pub long : length after ≡ 16
-  pub fixed : (j : ℕ) → j ≤ drivenOn board → reading after j ≡ reading before j
+  pub long : length after ≡ length before
+  pub elsewhere : (j : ℕ) → (j ≤ drivenOn board) ⊎ (nodesOn board < j) → reading after j ≡ reading before j
   pub free : (j : ℕ) → drivenOn board < j → j ≤ nodesOn board → InRange (reading after j)
 
 -- what the guess is given: a board that is ready, and stored currents within their limit

@@ -1,9 +1,15 @@
-// The fast guess: voltages from which the exact search may begin, found by Newton's way. A range and
-// an ending are all that it promises; no answer depends on it, so nothing else is stated or proved of
-// its numbers.
-pub mod newton;
-pub mod places;
-pub mod proposal;
-pub mod slide;
-pub mod straight;
-pub mod tangent;
+// The fast guess: voltages from which the exact search may begin, found by Newton's way in f64. A range
+// and an ending are all that it promises; no answer depends on it, so nothing else is stated or proved
+// of its numbers.
+mod matrix;
+mod newton;
+mod places;
+mod proposal;
+mod slide;
+mod straight;
+mod tangent;
+mod ties;
+mod whole;
+
+pub use newton::Ending;
+pub use proposal::propose;

@@ -1,18 +1,20 @@
 // Newton's way to voltages, in f64: the circuit is taken as straight lines where it stands, those
 // are solved, and so on from there.
+use crate::matrix;
 use crate::places;
 use crate::straight;
+use crate::tangent::Tangent;
+use crate::ties;
+use crate::whole;
 use circuit::board;
-use linear::matrix;
-use linear::ties;
-use linear::whole;
 use units::voltage::Nearest;
 use units::voltage::Voltage;
 ghost use Prim.Native.Nat.{_≤_, _<_};
-ghost use Rattle.circuit.specs.Board.{nodesOn, drivenOn, Evaluable};
+ghost use Rattle.circuit.specs.Board.{nodesOn, drivenOn, Laid, Ranged, Evaluable};
 ghost use Rattle.guess.specs.Proposal.{Standing, Proposed};
 
-// How a guess ended. The first two carry the largest net current that remains at a free node.
+// How a guess ended. The first two carry the largest net current that remains at a free node, at the
+// voltages that are proposed.
 pub enum Ending {
     Settled(f64),
     Spent(f64),
@@ -87,24 +89,42 @@ fn largest(board: &[u64; 212], nets: [f64; 16]) -> f64
     most
 }
 
-// What is left over is solved for once more, and the free nodes are brought to the whole microvolts that
-// the ties find best.
+// What remains at a free node at the most, where the nodes stand now.
+fn remaining(
+    board: &[u64; 212],
+    stretches: &[i64; 408],
+    volts: &[i64; 16],
+    tangents: [Tangent; 32],
+    x: &[f64; 16],
+    m: &mut [[f64; 15]; 15],
+) -> f64
+    requires { ⌜ Laid (now board) (now stretches) × Ranged (now board) (now volts) ⌝ }
+{
+    let r = straight::retaken(board, stretches, volts, tangents, m);
+    let here = r.tangents;
+    largest(board, straight::entering(board, here, x))
+}
+
+// The free nodes brought to the whole microvolts that the ties find best for what is left over. The
+// ending tells what remains there.
 fn cut(
     board: &[u64; 212],
-    m: &[[f64; 15]; 15],
-    nets: [f64; 16],
+    stretches: &[i64; 408],
+    tangents: [Tangent; 32],
     spent: bool,
     x: &mut [f64; 16],
+    m: &mut [[f64; 15]; 15],
     volts: &mut [i64; 16],
 ) -> Ending
-    requires { ⌜ (nodesOn (now board) ≤ 15) × (drivenOn (now board) ≤ nodesOn (now board)) × Standing (now board) (now volts) ⌝ }
+    requires { ⌜ Laid (now board) (now stretches) × Standing (now board) (now volts) ⌝ }
     ensures { λ r. ⌜ Standing (now (board .entry)) (now (volts .exit)) ⌝ }
 {
+    let nets = straight::entering(board, tangents, x);
     let whole = ties::cut(m, &nets, board::driven(board), board::nodes(board));
     match shift(board, whole, x, volts) {
         Change::Lost => Ending::Broken,
         Change::Moved(_) => {
-            let left = largest(board, nets);
+            let left = remaining(board, stretches, volts, tangents, x, m);
             if spent {
                 return Ending::Spent(left);
             }
@@ -151,8 +171,15 @@ fn search(
         changed = r.changed;
         rounds += 1;
     }
-    let nets = straight::entering(board, tangents, &x);
-    cut(board, &m, nets, changed & (0.5 < difference), &mut x, volts)
+    cut(
+        board,
+        stretches,
+        tangents,
+        changed & (0.5 < difference),
+        &mut x,
+        &mut m,
+        volts,
+    )
 }
 
 // Rounded proposals for the free nodes in `guess`; those of `volts` if the search broke.

@@ -27,11 +27,11 @@ pub fn place_free(board: &[u64; 212], from: &[i64; 16], to: &mut [i64; 16])
     ensures { λ _. ⌜ Proposed (now (board .entry)) (now (to .entry)) (now (to .exit)) ⌝ }
 {
     let mut after = circuit::places::copied(to);
-    let nodes = board::nodes(board);
-    let mut i = board::driven(board) + 1;
-    while i <= nodes {
-        after[i] = from[i];
-        i += 1;
-    }
+    circuit::places::take(
+        from,
+        board::driven(board) + 1,
+        board::nodes(board) + 1,
+        &mut after,
+    );
     *to = after;
 }

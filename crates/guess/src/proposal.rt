@@ -6,8 +6,8 @@ use crate::slide;
 use circuit::board;
 ghost use Rattle.guess.specs.Proposal.{Guessable, Proposed};
 
-// One free node slides, more go Newton's way; with none a driven node slides, and is not put back. `volts`
-// may hold anything; its ground and driven nodes stay as they are.
+// One free node slides, more go Newton's way, and with none there is nothing to propose. `volts` may hold
+// anything; its ground and driven nodes stay as they are.
 pub fn propose(
     board: &[u64; 212],
     stretches: &[i64; 408],
@@ -17,9 +17,13 @@ pub fn propose(
     requires { ⌜ Guessable (now board) (now stretches) (now stored) ⌝ }
     ensures { λ r. ⌜ Proposed (now (board .entry)) (now (volts .entry)) (now (volts .exit)) ⌝ }
 {
-    let mut at = places::seated(board, volts);
     let nodes = board::nodes(board);
-    if nodes <= board::driven(board) + 1 {
+    let driven = board::driven(board);
+    if nodes == driven {
+        return Ending::Settled(0.0);
+    }
+    let mut at = places::seated(board, volts);
+    if nodes == driven + 1 {
         let ending = slide::slide(board, stretches, stored, nodes, &mut at);
         places::place_free(board, &at, volts);
         return ending;

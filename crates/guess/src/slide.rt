@@ -3,9 +3,9 @@
 use crate::newton::Ending;
 use crate::tangent;
 use crate::tangent::Tangent;
+use crate::whole;
 use circuit::board;
 use circuit::branch;
-use linear::whole;
 use units::voltage::Nearest;
 use units::voltage::Voltage;
 ghost use Prim.Native.Nat.{_≤_, _<_};

@@ -1,9 +1,9 @@
 // The circuit as straight lines: the tangents of its elements, the matrix of their slopes, and what
 // enters the nodes by them.
+use crate::matrix;
 use crate::tangent;
 use crate::tangent::Tangent;
 use circuit::board;
-use linear::matrix;
 use network::kind;
 ghost use Prim.Native.Nat.{_≤_, _<_};
 ghost use Rattle.circuit.specs.Board.{nodesOn, Laid, Ranged, Evaluable};

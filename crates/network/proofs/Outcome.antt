@@ -113,3 +113,33 @@ module _ (N : Network) (x₁ x₂ d₁ d₂ : ℕ → ℤ) (same-x : (j : ℕ) �
     there = r .there;
     beyond = rw (← next-alike (r .voltages) (r .branch) (r .there)) (r .beyond);
   }
+
+-- ---- so have voltages that agree at the nodes that are there
+
+module _ (N : Network) (x d v u y : ℕ → ℤ) (wired : Wired N) (same : (j : ℕ) → j ≤ N .nodes → v j ≡ u j) where
+  leaving-alike : (i j : ℕ) → j < N .count → leaving 1 (N .branch j) (x j) v i ≡ leaving 1 (N .branch j) (x j) u i
+  unfolding leaving
+  leaving-alike i j l = rw (same (N .branch j .p) (wired .p-there j l), same (N .branch j .q) (wired .q-there j l))
+
+  net-alike : (i : ℕ) → i ≤ N .nodes → net 1 N x v i ≡ net 1 N x u i
+  unfolding net
+  net-alike i there = rw (same i there, sum-alike (λ (j : ℕ). leaving 1 (N .branch j) (x j) v i) (λ (j : ℕ). leaving 1 (N .branch j) (x j) u i) (N .count) (leaving-alike i))
+
+  pub accepted-alike : Accepted N x d v y → Accepted N x d u y
+  accepted-alike a = record {
+    drives = a .drives;
+    answer = record {
+      legal = record {
+        drives = record {
+          ground = sym (same 0 (omega arith)) ∙ a .answer .legal .drives .ground;
+          driven = λ j l. sym (same (suc j) (omega (arith, wired .driven-there))) ∙ a .answer .legal .drives .driven j l;
+        };
+        range = λ i f. rw (← same i (f .1)) (a .answer .legal .range i f);
+      };
+      low = λ i f. rw (← net-alike i (f .1)) (a .answer .low i f);
+      highest = λ w legal low j l. rw (← same j l) (a .answer .highest w legal low j l);
+    };
+    below = λ i f. rw (← same i (f .1)) (a .below i f);
+    stored = λ j l. a .stored j l ∙ same-next N x v u wired same j l;
+    kept = a .kept;
+  }

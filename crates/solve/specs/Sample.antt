@@ -46,3 +46,10 @@ pub data Sampled (N : Network) (d : ℕ → ℤ) (x y v : List ℤ) : Number →
       → 0 < numberOf (answerOf r)
       → y ≡ x
       → Sampled N d x y v (answerOf r)
+
+-- what a sample leaves in every place, u being the voltages before it: those past the nodes are as they were, and after a refusal all are
+pub record Leaves (N : Network) (x y u v : List ℤ) (number : Number) : Type 0 where
+  pub outcome : Sampled N (drivesAt u) x y v number
+  pub long : length v ≡ length u
+  pub past : (i : ℕ) → N .nodes < i → reading v i ≡ reading u i
+  pub unheard : 0 < numberOf number → v ≡ u

@@ -4,13 +4,15 @@ use crate::answer;
 use crate::settle;
 use circuit::advance;
 use circuit::board;
+use circuit::places;
+use units::number;
 use units::number::Number;
 use units::voltage::Voltage;
 ghost use mathlib.Core.Bool.{true};
 ghost use Prim.Native.Nat.{_≤_, _<_};
 ghost use Rattle.circuit.specs.Board.{nodesOn, drivenOn, networkOn};
 ghost use Rattle.solve.specs.Answer.{drivesAt};
-ghost use Rattle.solve.specs.Sample.{DrivesTested, TopTested, Playable, Sampled};
+ghost use Rattle.solve.specs.Sample.{DrivesTested, TopTested, Playable, Sampled, Leaves};
 
 // Whether every driven node stands at a legal drive.
 fn drives_legal(board: &[u64; 212], volts: &[i64; 16]) -> bool
@@ -76,7 +78,8 @@ fn voiced(
     }
 }
 
-// The driven nodes stand at the sample's drives; the free nodes at any proposal.
+// The driven nodes stand at the sample's drives; the free nodes at any proposal. The search has an array
+// of its own, so that a refusal leaves the voltages too.
 pub fn sample(
     board: &[u64; 212],
     stretches: &[i64; 408],
@@ -84,10 +87,15 @@ pub fn sample(
     stored: &mut [i64; 32],
 ) -> Number
     requires { ⌜ Playable (now board) (now stretches) (now stored) ⌝ }
-    ensures { λ r. ⌜ Sampled (networkOn (now (board .entry)) (now (stretches .entry))) (drivesAt (now (volts .entry))) (now (stored .entry)) (now (stored .exit)) (now (volts .exit)) r ⌝ }
+    ensures { λ r. ⌜ Leaves (networkOn (now (board .entry)) (now (stretches .entry))) (now (stored .entry)) (now (stored .exit)) (now (volts .entry)) (now (volts .exit)) r ⌝ }
 {
-    if drives_legal(board, volts) {
-        return voiced(board, stretches, volts, stored);
+    if !drives_legal(board, volts) {
+        return Number::Drive;
     }
-    Number::Drive
+    let mut found = places::copied(volts);
+    let answer = voiced(board, stretches, &mut found, stored);
+    if number::value(answer) == 0 {
+        places::take(&found, 0, board::nodes(board) + 1, volts);
+    }
+    answer
 }

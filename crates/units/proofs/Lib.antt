@@ -2,6 +2,7 @@ pub mod Clamping
 pub mod Doubling
 pub mod Every
 pub mod Integers
+pub mod Joined
 pub mod LittleEndian
 pub mod Machine
 pub mod Numbers

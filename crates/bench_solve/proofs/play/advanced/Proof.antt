@@ -16,7 +16,7 @@ value-requires : tie.Need-value-requires
 value-requires c κs = search needs
 
 returns : tie.Need-returns
-returns c = playable-after (c .before .before .before .before .before .before .before .pre) (c .before .sample .ensures)
+returns c = playable-after (c .before .before .before .before .before .before .before .pre) (c .before .sample .ensures .outcome)
 
 pub advanced-spec : {M : Type 1} → statement M
 advanced-spec = tie.close (tie.spec driven-requires propose-requires sample-requires value-requires returns)

@@ -1,4 +1,5 @@
 use mathlib.Core.Path.{_≡_, _∙_, ap}
+use mathlib.Core.Logic.{inl}
 use Prim.Native.Nat.{ℕ, suc, _<_}
 use native.Mathlib.Omega.{arith}
 use lib.ListN.{length}
@@ -30,7 +31,7 @@ returns c i h =
     let s = c .before .before .before .before .before .before .before .before in
     let e = c .before .before .before .before .driven .ensures in
     let placed : Placed (s .args .drives .now) (drivenOn (s .args .board .now)) (s .args .j) (drivenOn (s .args .board .now)) _ _ = rw e at (c .before .before .place .ensures) in
-    c .propose .ensures .fixed (suc i) (omega (arith, h)) ∙ placed .at i h
+    c .propose .ensures .elsewhere (suc i) (inl (omega (arith, h))) ∙ placed .at i h
 
 pub begin-spec : {M : Type 1} → statement M
 begin-spec =

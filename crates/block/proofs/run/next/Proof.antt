@@ -13,7 +13,7 @@ returns : tie.Need-returns
 returns c =
     let a = c .before .before .before .before .before .before .before .args in
     let b = c .before .before .before .begin in
-    sampled-is (a .board .now) (a .stretches .now) (a .drives .now) (a .j) (b .last .1 .1 .1 .1 .1 .0) (a .x .now) (b .ensures) (c .sample .ensures)
+    sampled-is (a .board .now) (a .stretches .now) (a .drives .now) (a .j) (b .last .1 .1 .1 .1 .1 .0) (a .x .now) (b .ensures) (c .sample .ensures .outcome)
 
 pub next-spec : {M : Type 1} → statement M
 next-spec = tie.close (tie.spec begin-requires sample-requires returns)

@@ -70,11 +70,8 @@ loop-less c = omega (arith, few (c .before .before .before .before .before .befo
 loop-again : tie.Need-loop-again Inv-loop μ-loop
 loop-again c = (c .before .before .before .before .before .before .before .before .before .before .before .before .before .before .before .before .before .before .before .loop .inv .0, omega (arith, few (c .before .before .before .before .before .before .before .before .before .before .before .before .before .before .before .before)), c .before .before .before .before .before .before .before .shift .ensures)
 
-entering-requires-2 : tie.Need-entering-requires-2 Inv-loop μ-loop
-entering-requires-2 c κs = in-places _ _ (c .before .before .before .before .before .before .before .before .before .before .before .pre .0 .ready .laid)
-
 cut-requires : tie.Need-cut-requires Inv-loop μ-loop
-cut-requires c κs = let f = in-places _ _ (c .before .before .before .before .before .before .before .before .before .before .before .before .before .before .before .pre .0 .ready .laid) in (f .few-nodes, f .few-driven, c .before .before .before .before .before .before .loop .inv .2)
+cut-requires c κs = (c .before .before .before .before .before .before .before .before .before .before .before .before .before .pre .0 .ready .laid, c .before .before .before .before .loop .inv .2)
 
 returns-3 : tie.Need-returns-3 Inv-loop μ-loop
 returns-3 c = search needs
@@ -102,6 +99,5 @@ search-spec =
     add-rounds
     loop-less
     loop-again
-    entering-requires-2
     cut-requires
     returns-3)
