@@ -1,6 +1,10 @@
 pub mod CallLaws
 pub mod Cut
+pub mod Demand1
+pub mod Demand2
+pub mod Demand3
 pub mod DriveLaws
+pub mod HostLaws
 pub mod OneOutcome
 pub mod PlayLaws
 pub mod SampleLaws

@@ -7,6 +7,7 @@ use native.Mathlib.Omega.{arith}
 use lib.Dec.{eqb}
 use lib.ListN.{length}
 use borrow.Author.Tests.{eqb-true}
+use Rattle.units.specs.Number.{numberOf}
 use Rattle.units.specs.Table.{every}
 use Rattle.units.proofs.Every.{both}
 use Rattle.image.specs.Parts.{noParts, headerFits, curveSizesFit, curvesFit, elementsFit}
@@ -111,3 +112,22 @@ opened-sound image parts e =
     let is = same-parts (partsOf image) parts (f .1) in
     let padding = every (λ (k : ℕ). paddingFits (curveBytesAt image k)) (headerOf image .«curve_count») in
     (is, rw is (sound (partsOf image) (trailer-says image (b .0)) (sizes-say image (b .0) (c .0) .sizes) (both {a = padding} {b = curvesFit (partsOf image)} (d .0) .1) (f .0)))
+
+-- ---- the numbers that an image is refused by: 1 to 5
+
+passed-over : (n : Number) (holds : Bool) (rest : Opening) → (1 ≤ numberOf n) × (numberOf n ≤ 5) → ((k : Number) → rest ≡ refused k → (1 ≤ numberOf k) × (numberOf k ≤ 5)) → (k : Number) → rule n holds rest ≡ refused k → (1 ≤ numberOf k) × (numberOf k ≤ 5)
+passed-over n true rest here there k e = there k e
+passed-over n false rest here there k e = let same : n ≡ k = cc in rw (← same) here
+
+never : (parts : Parts) (k : Number) → opened parts ≡ refused k → (1 ≤ numberOf k) × (numberOf k ≤ 5)
+never parts k e = let z : _≡_ {A = ℕ} 0 1 = cc in absurd (omega arith)
+
+pub refused-early : (image : List ℕ) (k : Number) → openingOf image ≡ refused k → (1 ≤ numberOf k) × (numberOf k ≤ 5)
+unfolding openingOf
+refused-early image =
+    passed-over number.Length (lengthFits (length image)) _ (omega arith, omega arith)
+    (passed-over number.Trailer (trailerFits image) _ (omega arith, omega arith)
+    (passed-over number.Sizes (sizesFit image) _ (omega arith, omega arith)
+    (passed-over number.Curve (curveBytesFit image) _ (omega arith, omega arith)
+    (passed-over number.Element (elementsFit (partsOf image)) _ (omega arith, omega arith)
+    (never (partsOf image))))))
