@@ -30,7 +30,7 @@ use Rattle.block.proofs.SampleLaws.{run-length}
 
 -- ---- an output is the voltage of its sample
 
-read-alike : (n : ℕ) (s t : List ℕ) (at : ℕ) → ((k : ℕ) → k < at + n → getD s k 0 ≡ getD t k 0) → littleEndian n s at ≡ littleEndian n t at
+pub read-alike : (n : ℕ) (s t : List ℕ) (at : ℕ) → ((k : ℕ) → k < at + n → getD s k 0 ≡ getD t k 0) → littleEndian n s at ≡ littleEndian n t at
 unfolding littleEndian
 read-alike zero s t at same = refl
 read-alike (suc n) s t at same = rw (same at (omega arith), read-alike n s t (at + 1) (λ k h. same k (omega arith)))

@@ -1,5 +1,6 @@
 pub mod CallLaws
 pub mod Cut
+pub mod CutCall
 pub mod Demand1
 pub mod Demand2
 pub mod Demand3

@@ -1,5 +1,10 @@
 // How far to trust a circuit's voltages: the arguments name images. A line for each free node has its
 // number, held conductance, steepest sum and least B for e = 0; an image's last line has the greatest B.
+//
+// It holds for one sample, against any other solution with the same drives and the same stored currents
+// before it: no free node is lower by B microvolts or more, and none is higher. Of a run, whose stored
+// currents drift from another's, it says nothing, nor of a circuit that is not this network: one
+// without the leak, with conductances between whole nanosiemens, or with curves that aren't straight.
 mod report;
 
 use console::file;
