@@ -1,6 +1,6 @@
-"""Makes the files of every case in crates/bench_render, where the proved program renders them all, or checks them.
+"""Makes the files of every case in crates/render, which rt runs on them all, or checks them.
 
-cases.py make PROGRAM    writes data/NAME.image and data/NAME.drives from the case files, the names to args, and PROGRAM's lines to stdout
+cases.py make PROGRAM    writes data/NAME.image and data/NAME.drives from the case files, their names to args, and PROGRAM's lines to stdout
 cases.py check PROGRAM   exit 1 unless the files are what the case files say and PROGRAM writes the case's lines
 """
 
@@ -11,7 +11,7 @@ import sys
 import describe
 
 HERE = pathlib.Path(__file__).parent
-CRATE = HERE.parent.parent / "crates" / "bench_render"
+CRATE = HERE.parent.parent / "crates" / "render"
 DATA = CRATE / "data"
 NAMES = CRATE / "args"
 LINES = CRATE / "stdout"
@@ -38,15 +38,20 @@ def lines_of(program, name):
     return run.stdout if run.returncode == 0 else f"exit {run.returncode}".encode()
 
 
+def arguments(cases):
+    """The files of every case, an image and its drives in turn, as `args` has them."""
+    return "".join(f"{name}.image\n{name}.drives\n" for name in cases)
+
+
 def expected():
-    """The lines of every case by name, as `stdout` has them: `case NAME`, and then its lines."""
-    found = {}
+    """The lines of every case by name: `args` has their order, and the last line of each says how it ended."""
+    found = [[]]
     for line in LINES.read_text().splitlines(keepends=True):
-        if line.startswith("case "):
-            lines = found[line.split()[1]] = []
-        else:
-            lines.append(line)
-    return {name: "".join(lines).encode() for name, lines in found.items()}
+        found[-1].append(line)
+        if line.startswith(("end ", "refused ")):
+            found.append([])
+    names = [image.removesuffix(".image") for image in NAMES.read_text().split()[::2]]
+    return {name: "".join(lines).encode() for name, lines in zip(names, found[:-1], strict=True)}
 
 
 def make(program):
@@ -58,8 +63,8 @@ def make(program):
         for kind, new in ("image", build.image), ("drives", build.drives):
             if new is not None:
                 (DATA / f"{name}.{kind}").write_bytes(new)
-    NAMES.write_text("".join(f"{name}\n" for name in cases))
-    LINES.write_bytes(b"".join(f"case {name}\n".encode() + lines_of(program, name) for name in cases))
+    NAMES.write_text(arguments(cases))
+    LINES.write_bytes(b"".join(lines_of(program, name) for name in cases))
 
 
 def complaints(program, name, build, lines):
@@ -78,8 +83,8 @@ def check(program):
     found = [words for name, build in cases.items() for words in complaints(program, name, build, lines.get(name, b""))]
     known = {f"{name}.{kind}" for name in cases for kind in ("image", "drives")}
     found += [f"{path.name} belongs to no case" for path in DATA.iterdir() if path.name not in known]
-    if not NAMES.read_text().split() == list(lines) == list(cases):
-        found.append("args or stdout do not name the cases in their order")
+    if NAMES.read_text() != arguments(cases) or LINES.read_bytes() != b"".join(lines.values()):
+        found.append("args or stdout do not have the cases in their order")
     for words in found:
         print(words)
     print(f"{len(cases)} cases, {len(found)} complaints")

@@ -17,7 +17,7 @@ size -A target/bench/block.o | awk '
 echo "from the host: $(nm -u target/bench/block.o | awk '{ printf "%s%s", between, $2; between = ", " }')"
 cc -O2 -Wall -Wextra -Iinclude bench/footprint/host.c target/bench/block.o -lpthread -o target/bench/footprint
 set --
-for image in crates/bench_render/data/*.image; do
+for image in crates/render/data/*.image; do
     set -- "$@" "$image" "${image%.image}.drives"
 done
 exec target/bench/footprint "$@"

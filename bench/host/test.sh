@@ -12,4 +12,4 @@ cc -O2 -Wall -Wextra -Iinclude bench/host/render.c $block -o target/bench/krtova
 python3 bench/cases/cases.py check target/bench/krtovalin
 cc -O2 -g -fsanitize=address -Wall -Wextra -Iinclude bench/host/compare.c $block target/bench/libsecond.a -lpthread -ldl -lm -o target/bench/compare
 # the block allocates nothing, and the search for leaks takes longer than thousands of calls
-ASAN_OPTIONS=detect_leaks=0 target/bench/compare "${1:-20000}" crates/bench_render/data/*.image
+ASAN_OPTIONS=detect_leaks=0 target/bench/compare "${1:-20000}" crates/render/data/*.image

@@ -5,7 +5,7 @@
 # not: arm-none-eabi-gcc, and Python's unicorn.
 set -eu
 cd "$(dirname "$0")/../.."
-[ $# -gt 0 ] || set -- crates/bench_render/data/clipper.image crates/bench_render/data/divider.image
+[ $# -gt 0 ] || set -- crates/render/data/clipper.image crates/render/data/divider.image
 mkdir -p target/bench
 bench/native/module.sh target/bench/block.ll
 clang=$(dirname "$(dirname "$(rt doc)")")/on/$(uname -m)/toolchain/bin/clang

@@ -3,17 +3,16 @@ use mathlib.Core.Path.{_≡_, refl}
 use mathlib.Core.Bool.{true}
 use mathlib.Core.List.{List}
 use mathlib.Core.Logic.{inl, inr}
-use Prim.Native.Nat.{ℕ, _+_, _*_, _^_, _≤_}
+use Prim.Native.Nat.{ℕ, suc, _+_, _*_, _-_, _^_, _≤_}
 use native.Mathlib.Nat.{mul-le-mul-left}
-use native.Mathlib.Numerals.{add-one}
 use native.Mathlib.Omega.{arith}
 use lib.IntN.{ℤ}
-use lib.ListN.{take}
 use Rattle.network.specs.Network.{Network, held, InLimits}
 use Rattle.network.specs.Bound.{Enough}
 use Rattle.network.proofs.Hold.{leak-held}
 use Rattle.network.proofs.Ranges.{steepest-fits}
-use Rattle.console.specs.Text.{Adds, Decimal, Then, lineEnd}
+use Rattle.console.specs.Text.{Adds}
+use Rattle.console.proofs.TextLaws.{adds-none, adds-then, adds-within}
 use Rattle.image.specs.Conductance.{conductancesFit}
 use Rattle.image.specs.Format.{Opening, opened, refused}
 use Rattle.image.specs.Meaning.{networkAt}
@@ -29,11 +28,20 @@ use Rattle.opening.specs.Opening.{boardOf, stretchesOf}
 use Rattle.opening.proofs.BoardIs.{laid, network-is}
 use Rattle.units.specs.declared.number.Number.{Number}
 use Rattle.units.specs.declared.number.Number.the-variants.{Done}
-use Rattle.bound.specs.Report.{NodeLine, Nodes, more, Greatest, greatestWord, Report, Refusal, Answered}
+use Rattle.bound.specs.Report.{nodeLine, nodeLines, Greatest, Refusal, Answered}
 
--- one node more
-pub nodes-more : {N : Network} {i at r m : ℕ} {a b : List ℕ} → Nodes N i (take at a) → Adds (NodeLine N (i + 1)) m at a r b → Nodes N (i + 1) (take r b)
-nodes-more {i = i} l p = rw (p .reads, add-one) (more l (rw (add-one i) at (p .is)))
+-- no node yet, and one more
+module _ (N : Network) where
+  pub nodes-none : {i m : ℕ} {a : List ℕ} → i ≡ N .driven → Adds (nodeLines N (i - N .driven)) m 0 a 0 a
+  unfolding nodeLines
+  nodes-none {i} e = let z : i - N .driven ≡ 0 = omega arith in rw z adds-none
+
+  pub nodes-more : (i : ℕ) {at r : ℕ} {a b c : List ℕ} → N .driven ≤ i → Adds (nodeLines N (i - N .driven)) (84 * i) 0 a at b → Adds (nodeLine N (i + 1)) 84 at b r c → Adds (nodeLines N (i + 1 - N .driven)) (84 * (i + 1)) 0 a r c
+  unfolding nodeLines
+  nodes-more i h p q =
+      let count : i + 1 - N .driven ≡ suc (i - N .driven) = omega arith in
+      let node : i + 1 ≡ N .driven + suc (i - N .driven) = omega arith in
+      rw count (adds-within (omega arith) (adds-then p (rw node at q)))
 
 -- 2^36 is enough where nothing is asked but the balance
 big-enough : (N : Network) → InLimits N → Enough N 0 (2 ^ 36)
@@ -54,15 +62,7 @@ module _ (parts : Parts) (board : List ℕ) (stretches : List ℤ) (sound : Soun
   pub network-of : networkOn board stretches ≡ networkAt parts plain
   network-of = rw (b, s) (network-is parts plain 16 sound)
 
--- the nodes' lines and then the last
-pub report-of : {N : Network} {m k at r : ℕ} {a b : List ℕ} → Nodes N (N .nodes) (take at a) → Greatest N m → Adds (Then (Then (_≡_ greatestWord) (Decimal m)) (_≡_ lineEnd)) k at a r b → Report N (take r b)
-report-of {m = m} {at = at} {a = a} nodes most p = record {
-  most = m;
-  is-greatest = most;
-  told = record { first = take at a; second = p .word; begins = nodes; ends = p .is; is = p .reads };
-}
-
 -- an image that was not opened
-pub refused-answered : (o : Opening) (number : Number) (text : List ℕ) → number ≡ numberIn o → (number ≡ Done → ⊥) → Refusal number text → Answered o text
-refused-answered (opened parts) number text e h w = absurd (h e)
-refused-answered (refused n) number text e h w = rw e at w
+pub refused-answered : (o : Opening) (number : Number) {r : ℕ} {a b : List ℕ} → number ≡ numberIn o → (number ≡ Done → ⊥) → Refusal number a r b → Answered o a r b
+refused-answered (opened parts) number e h w = absurd (h e)
+refused-answered (refused n) number e h w = rw e at w

@@ -7,14 +7,18 @@
 // without the leak, with conductances between whole nanosiemens, or with curves that aren't straight.
 mod report;
 
-use console::file;
 use libc::STDOUT_FILENO;
 
 // The report on the image that argument i names.
 fn report_on(i: usize) {
+    let mut path = io::buffer();
+    let named = os::arg(i, &mut path);
+    // a descriptor below 0 is read as an empty file
+    let file = os::open_read(&path[..named]);
     // longer than any image that is accepted
     let mut image = io::buffer();
-    let n = file::contents(file::open_argument(i), &mut image);
+    let n = io::read_full(file, &mut image);
+    libc::close(file);
     let mut text = io::buffer();
     let end = report::put(&mut text, &image[..n]);
     io::write_all(STDOUT_FILENO, &text[..end]);

@@ -11,20 +11,20 @@ use units::signed;
 ghost use mathlib.Core.Path.{_≡_};
 ghost use mathlib.Core.Bool.{true};
 ghost use Prim.Native.Nat.{_+_, _≤_};
-ghost use lib.ListN.{length, take};
+ghost use lib.ListN.{length};
 ghost use Rattle.console.specs.Text.{Adds};
 ghost use Rattle.image.specs.Conductance.{conductancesFit};
 ghost use Rattle.image.specs.Format.{openingOf};
 ghost use Rattle.image.specs.Meaning.{networkAt};
 ghost use Rattle.image.specs.Setting.{plain};
 ghost use Rattle.image.specs.Sound.{Sound};
-ghost use Rattle.circuit.specs.Board.{nodesOn, networkOn, Laid};
-ghost use Rattle.bound.specs.Report.{Column, NodeLine, Nodes, Greatest, Report, Refusal, ReportOn, Answered};
+ghost use Rattle.circuit.specs.Board.{networkOn, Laid};
+ghost use Rattle.bound.specs.Report.{column, nodeLine, freeLines, Greatest, Report, Refusal, ReportOn, Answered};
 
 // A number and a space.
 fn put_column(text: &mut [u8], at: usize, n: u64) -> usize
     requires { ⌜ at + 21 ≤ length (now text) ⌝ }
-    ensures { λ r. ⌜ Adds (Column n) 21 at (now (text .entry)) r (now (text .exit)) ⌝ }
+    ensures { λ r. ⌜ Adds (column n) 21 at (now (text .entry)) r (now (text .exit)) ⌝ }
 {
     let end = text::put_decimal(text, at, n);
     text::put_word(text, end, b" ")
@@ -39,7 +39,7 @@ fn put_node(
     i: usize,
 ) -> usize
     requires { ⌜ Laid (now board) (now stretches) × (at + 84 ≤ length (now text)) ⌝ }
-    ensures { λ r. ⌜ Adds (NodeLine (networkOn (now (board .entry)) (now (stretches .entry))) i) 84 at (now (text .entry)) r (now (text .exit)) ⌝ }
+    ensures { λ r. ⌜ Adds (nodeLine (networkOn (now (board .entry)) (now (stretches .entry))) i) 84 at (now (text .entry)) r (now (text .exit)) ⌝ }
 {
     let held = node::held(board, stretches, i);
     let steepest = node::steepest(board, stretches, i);
@@ -54,7 +54,7 @@ fn put_node(
 // A line for each free node, at the start of `text`.
 fn put_nodes(text: &mut [u8], board: &[u64; 212], stretches: &[i64; 408]) -> usize
     requires { ⌜ Laid (now board) (now stretches) × (1260 ≤ length (now text)) ⌝ }
-    ensures { λ r. ⌜ Nodes (networkOn (now (board .entry)) (now (stretches .entry))) (nodesOn (now (board .entry))) (take r (now (text .exit))) × (r ≤ 1260) ⌝ }
+    ensures { λ r. ⌜ Adds (freeLines (networkOn (now (board .entry)) (now (stretches .entry)))) 1260 0 (now (text .entry)) r (now (text .exit)) ⌝ }
 {
     let nodes = board::nodes(board);
     let mut i = board::driven(board);
@@ -80,7 +80,7 @@ fn greatest(board: &[u64; 212], stretches: &[i64; 408]) -> u64
 // The report on a circuit whose conductances are within their limits, at the start of `text`.
 fn put_report(text: &mut [u8], parts: Parts) -> usize
     requires { ⌜ Sound parts × (conductancesFit parts plain ≡ true) × (4096 ≤ length (now text)) ⌝ }
-    ensures { λ r. ⌜ Report (networkAt parts plain) (take r (now (text .exit))) × (r ≤ 4096) ⌝ }
+    ensures { λ r. ⌜ Report (networkAt parts plain) (now (text .entry)) r (now (text .exit)) × (r ≤ 4096) ⌝ }
 {
     let mut stretches = [0i64; 408];
     opening::stretches(parts, &mut stretches);
@@ -95,7 +95,7 @@ fn put_report(text: &mut [u8], parts: Parts) -> usize
 // `refused R`, at the start of `text`.
 fn put_refused(text: &mut [u8], number: Number) -> usize
     requires { ⌜ 4096 ≤ length (now text) ⌝ }
-    ensures { λ r. ⌜ Refusal number (take r (now (text .exit))) × (r ≤ 4096) ⌝ }
+    ensures { λ r. ⌜ Refusal number (now (text .entry)) r (now (text .exit)) × (r ≤ 4096) ⌝ }
 {
     let at = text::put_word(text, 0, b"refused ");
     let end = text::put_decimal(text, at, number::value(number));
@@ -105,7 +105,7 @@ fn put_refused(text: &mut [u8], number: Number) -> usize
 // The report on an opened image, or rule 6's number: reading alone does not ask it.
 fn put_judged(text: &mut [u8], parts: Parts) -> usize
     requires { ⌜ Sound parts × (4096 ≤ length (now text)) ⌝ }
-    ensures { λ r. ⌜ ReportOn parts (conductancesFit parts plain) (take r (now (text .exit))) × (r ≤ 4096) ⌝ }
+    ensures { λ r. ⌜ ReportOn parts (conductancesFit parts plain) (now (text .entry)) r (now (text .exit)) × (r ≤ 4096) ⌝ }
 {
     if image::conductances_fit(parts) {
         return put_report(text, parts);
@@ -116,7 +116,7 @@ fn put_judged(text: &mut [u8], parts: Parts) -> usize
 // An image's report, or `refused R`, at the start of `text`. Where it ends.
 pub fn put(text: &mut [u8], image: &[u8]) -> usize
     requires { ⌜ 4096 ≤ length (now text) ⌝ }
-    ensures { λ r. ⌜ Answered (openingOf (now (image .entry))) (take r (now (text .exit))) × (r ≤ length (now (text .exit))) ⌝ }
+    ensures { λ r. ⌜ Answered (openingOf (now (image .entry))) (now (text .entry)) r (now (text .exit)) × (r ≤ length (now (text .exit))) ⌝ }
 {
     let opened = image::read(image);
     let number = opened.number;

@@ -1,2 +1,1 @@
-pub mod OneText
 pub mod TextLaws

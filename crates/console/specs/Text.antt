@@ -1,16 +1,21 @@
 -- Text as the programs write it, in ASCII. Assumes nothing.
 use mathlib.Core.Path.{_≡_}
+use mathlib.Core.Bool.{cond}
 use mathlib.Core.List.{List, [], _∷_, _++_}
-use Prim.Native.Nat.{ℕ, _+_, _≤_}
+use Prim.Native.Nat.{ℕ, zero, suc, _+_, _/_, _%_, _≤_}
+use lib.Dec.{ltb}
 use lib.IntN.{ℤ, pos, negsuc, natAbs}
-use lib.ListN.{length, take}
-use Rattle.io.specs.Digits.{digits, Fewest}
+use lib.ListN.{length}
+use Rattle.units.specs.Table.{overlaid}
 
--- a number's decimal digits, with no zero in front of another digit
-pub record Decimal (n : ℕ) (word : List ℕ) : Type 0 where
-  pub places : ℕ
-  pub fewest : Fewest 10 1 n places
-  pub spelt : word ≡ digits 10 places n
+-- a number in decimal, where it has at most so many digits: its only digit, or the digits of a tenth of it and then its last
+unfoldable pub decimalIn : ℕ → ℕ → List ℕ
+decimalIn zero n = []
+decimalIn (suc most) n = cond (ltb n 10) ((48 + n) ∷ []) (decimalIn most (n / 10) ++ ((48 + n % 10) ∷ []))
+
+-- a number in decimal, with no zero in front of another digit: n has at most n + 1 digits
+unfoldable pub decimal : ℕ → List ℕ
+decimal n = decimalIn (suc n) n
 
 -- what stands before the digits: nothing, or a minus
 abbrev pub sign : ℤ → List ℕ
@@ -20,28 +25,16 @@ sign (negsuc n) = 45 ∷ []
 abbrev pub lineEnd : List ℕ
 lineEnd = 10 ∷ []
 
+-- a number as a line
+unfoldable pub line : ℤ → List ℕ
+line z = sign z ++ (decimal (natAbs z) ++ lineEnd)
+
 -- `refused `, which a refusal's number follows
 abbrev pub refusedWord : List ℕ
 refusedWord = 114 ∷ 101 ∷ 102 ∷ 117 ∷ 115 ∷ 101 ∷ 100 ∷ 32 ∷ []
 
--- a number as a line
-pub record Line (z : ℤ) (word : List ℕ) : Type 0 where
-  pub size : List ℕ
-  pub spelt : Decimal (natAbs z) size
-  pub is : word ≡ sign z ++ (size ++ lineEnd)
-
--- a text of one kind after a text of another
-pub record Then (P Q : List ℕ → Type 0) (word : List ℕ) : Type 0 where
-  pub first : List ℕ
-  pub second : List ℕ
-  pub begins : P first
-  pub ends : Q second
-  pub is : word ≡ first ++ second
-
--- a text of a kind, of at most so many bytes, was added at a place: from `before` to `after`, where it ends at r
-pub record Adds (Kind : List ℕ → Type 0) (most at : ℕ) (before : List ℕ) (r : ℕ) (after : List ℕ) : Type 0 where
-  pub word : List ℕ
-  pub is : Kind word
-  pub short : length word ≤ most
-  pub moved : r ≡ at + length word
-  pub reads : take r after ≡ take at before ++ word
+-- a text was added to a buffer: it stands from `at` on, r is where it ends, and every other byte is as it was. It has at most so many bytes, which follows and is there for callers
+pub record Adds (text : List ℕ) (most at : ℕ) (before : List ℕ) (r : ℕ) (after : List ℕ) : Type 0 where
+  pub short : length text ≤ most
+  pub moved : r ≡ at + length text
+  pub buffer : after ≡ overlaid before at text

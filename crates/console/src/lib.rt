@@ -1,3 +1,2 @@
-// What the programs share: numbers as lines of text, and files named by arguments.
-pub mod file;
+// What the programs share: numbers and words as text.
 pub mod text;

@@ -1,15 +1,14 @@
 // Text in a lent buffer, put together from left to right: each function writes from `at` on, answers
-// where its text ends, and leaves what stands before `at`.
+// where its text ends, and leaves every other byte as it was.
 use units::signed;
-ghost use mathlib.Core.Path.{_≡_};
-ghost use Prim.Native.Nat.{ℕ, _+_, _≤_};
+ghost use Prim.Native.Nat.{_+_, _≤_};
 ghost use lib.ListN.{length};
-ghost use Rattle.console.specs.Text.{Adds, Decimal, sign, Line};
+ghost use Rattle.console.specs.Text.{decimal, sign, line, Adds};
 
 // A word as it stands.
 pub fn put_word(text: &mut [u8], at: usize, word: &[u8]) -> usize
     requires { ⌜ at + length (now word) ≤ length (now text) ⌝ }
-    ensures { λ r. ⌜ Adds (_≡_ (now (word .entry))) (length (now (word .entry))) at (now (text .entry)) r (now (text .exit)) ⌝ }
+    ensures { λ r. ⌜ Adds (now (word .entry)) (length (now (word .entry))) at (now (text .entry)) r (now (text .exit)) ⌝ }
 {
     let mut j: usize = 0;
     while j < word.len() {
@@ -22,7 +21,7 @@ pub fn put_word(text: &mut [u8], at: usize, word: &[u8]) -> usize
 // A number's decimal digits.
 pub fn put_decimal(text: &mut [u8], at: usize, n: u64) -> usize
     requires { ⌜ at + 20 ≤ length (now text) ⌝ }
-    ensures { λ r. ⌜ Adds (Decimal n) 20 at (now (text .entry)) r (now (text .exit)) ⌝ }
+    ensures { λ r. ⌜ Adds (decimal n) 20 at (now (text .entry)) r (now (text .exit)) ⌝ }
 {
     let mut spelt = [0u8; 20];
     let k = io::decimal(n, &mut spelt);
@@ -32,7 +31,7 @@ pub fn put_decimal(text: &mut [u8], at: usize, n: u64) -> usize
 // The sign of a number below zero.
 fn put_sign(text: &mut [u8], at: usize, z: i64) -> usize
     requires { ⌜ at + 1 ≤ length (now text) ⌝ }
-    ensures { λ r. ⌜ Adds (_≡_ (sign z)) 1 at (now (text .entry)) r (now (text .exit)) ⌝ }
+    ensures { λ r. ⌜ Adds (sign z) 1 at (now (text .entry)) r (now (text .exit)) ⌝ }
 {
     if signed::less(z, 0) {
         return put_word(text, at, b"-");
@@ -43,7 +42,7 @@ fn put_sign(text: &mut [u8], at: usize, z: i64) -> usize
 // A number with its sign, and the line's end.
 pub fn put_line(text: &mut [u8], at: usize, z: i64) -> usize
     requires { ⌜ at + 22 ≤ length (now text) ⌝ }
-    ensures { λ r. ⌜ Adds (Line z) 22 at (now (text .entry)) r (now (text .exit)) ⌝ }
+    ensures { λ r. ⌜ Adds (line z) 22 at (now (text .entry)) r (now (text .exit)) ⌝ }
 {
     let digits = put_sign(text, at, z);
     let end = put_decimal(text, digits, signed::size(z));

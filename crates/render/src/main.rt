@@ -1,12 +1,85 @@
-// Renders a circuit: the first argument names its image, the second its drives.
-use console::file;
+// Renders circuits: of each two arguments the first names an image, the second its drives. Writes a line
+// for each sample, and then how it ended. No contract can say what is read or written, so this file is
+// there to be read: what the lines are is promised by `rendering`.
+use block::State;
 use libc::STDOUT_FILENO;
+use rendering::SAMPLES;
+use rendering::Turn;
+ghost use Prim.Native.Nat.{_≤_};
+
+// A proved loop has to end. No file has so many samples.
+const ENOUGH: u64 = 4611686018427387904;
+
+// Document 01's number, 0 where every sample was accepted, and how many were, over all blocks.
+struct Finish {
+    number: u64,
+    count: u64,
+}
+
+// Opens the file that argument i names. A descriptor below 0 is read as an empty file.
+fn open(i: usize) -> i32 {
+    let mut path = io::buffer();
+    let n = os::arg(i, &mut path);
+    os::open_read(&path[..n])
+}
+
+// Reads a block's drives, plays them from this state, and writes the lines. A file that ends, fails
+// or isn't open gives fewer than a block's.
+fn next(image: &[u8], state: State, drives: i32) -> Turn
+    ensures { λ r. ⌜ r .count ≤ 1024 ⌝ }
+{
+    let room = rendering::drive_bytes(image);
+    let mut space = io::large_buffer();
+    let length = io::read_full(drives, &mut space[..room]);
+    let mut text = io::large_buffer();
+    let turn = rendering::play(image, state, &space[..length], &mut text);
+    let end = turn.length;
+    io::write_all(STDOUT_FILENO, &text[..end]);
+    turn
+}
+
+// Block after block from a fresh state, up to one that is short or refused.
+fn blocks(image: &[u8], drives: i32) -> Finish {
+    let mut state = State { currents: [0; 32] };
+    let mut total: u64 = 0;
+    while total < ENOUGH {
+        let turn = next(image, state, drives);
+        total += turn.count;
+        if turn.count < SAMPLES {
+            return Finish {
+                number: turn.number,
+                count: total,
+            };
+        }
+        state = turn.state;
+    }
+    Finish {
+        number: 0,
+        count: total,
+    }
+}
+
+// Renders the image that one argument names with the drives that another does.
+fn render(image: usize, drives: usize) {
+    let file = open(image);
+    // longer than any image that is accepted
+    let mut bytes = io::buffer();
+    let n = io::read_full(file, &mut bytes);
+    libc::close(file);
+    let driving = open(drives);
+    let finish = blocks(&bytes[..n], driving);
+    libc::close(driving);
+    let mut text = [0u8; 56];
+    let end = rendering::put_ending(&mut text, finish.number, finish.count);
+    io::write_all(STDOUT_FILENO, &text[..end]);
+}
 
 fn main() {
-    // longer than any image that is accepted
-    let mut image = io::buffer();
-    let n = file::contents(file::open_argument(1), &mut image);
-    let drives = file::open_argument(2);
-    rendering::render(&image[..n], drives, STDOUT_FILENO);
-    libc::close(drives);
+    // the program's own name is an argument too
+    let pairs = os::arg_count() / 2;
+    let mut j: usize = 0;
+    while j < pairs {
+        render(2 * j + 1, 2 * j + 2);
+        j += 1;
+    }
 }

@@ -1,2 +1,3 @@
-pub mod OneRendering
+pub mod Examples
+pub mod OneOutcome
 pub mod RenderingLaws

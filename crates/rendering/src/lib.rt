@@ -1,8 +1,11 @@
-// Rendering: an image and a file of drives become lines of text, block by block.
-mod blocks;
+// Rendering, on slices: drives that were read become lines of text in a lent buffer, a block at a time.
 mod ending;
 mod lines;
 mod turn;
 
-pub use blocks::render;
-pub use ending::Finish;
+pub use ending::put_ending;
+pub use lines::put_lines;
+pub use turn::SAMPLES;
+pub use turn::Turn;
+pub use turn::drive_bytes;
+pub use turn::play;

@@ -1,17 +1,26 @@
-// One turn of rendering: as many drives as a block takes are read, played, and written as lines.
+// One turn of rendering: as many drives as a block takes are played, and become lines.
 use crate::lines;
-use crate::lines::Turn;
 use block::State;
 ghost use mathlib.Core.Path.{_≡_};
-ghost use Prim.Native.Nat.{ℕ, _≤_};
+ghost use Prim.Native.Nat.{_*_, _≤_};
+ghost use lib.ListN.{length};
 ghost use Rattle.image.specs.Format.{openingOf};
-ghost use Rattle.rendering.specs.Rendering.{drivenOf, setsIn, Turned};
+ghost use Rattle.rendering.specs.Rendering.{blockSamples, drivenOf, setsIn, Told};
 
 // How many samples a block has.
 pub const SAMPLES: u64 = 1024;
 
+// What came of a block: document 01's number, how many samples were accepted, where their lines end,
+// and the state after them.
+pub struct Turn {
+    pub number: u64,
+    pub count: u64,
+    pub length: usize,
+    pub state: State,
+}
+
 // How many nodes of an image are driven; none of an image that is not opened.
-pub fn driven(image: &[u8]) -> usize
+fn driven(image: &[u8]) -> usize
     ensures { λ r. ⌜ (r ≡ drivenOf (openingOf (now (image .entry)))) × (r ≤ 15) ⌝ }
 {
     let opened = image::read(image);
@@ -30,18 +39,28 @@ fn sets(length: usize, driven: usize) -> usize
     length / (4 * driven)
 }
 
-// Reads a block's drives, plays them from this state, and writes the lines. A file that ends, fails
-// or isn't open gives fewer than a block's.
-pub fn next(image: &[u8], driven: usize, state: State, drives: i32, out: i32) -> Turn
-    requires { ⌜ (driven ≡ drivenOf (openingOf (now image))) × (driven ≤ 15) ⌝ }
-    ensures { λ r. ⌜ Turned (now (image .entry)) state (r .number) (r .count) (r .state) ⌝ }
+// How many bytes the drives of a block take. The most that `play` plays.
+pub fn drive_bytes(image: &[u8]) -> usize
+    ensures { λ r. ⌜ (r ≡ 4 * blockSamples * drivenOf (openingOf (now (image .entry)))) × (r ≤ 61440) ⌝ }
 {
-    let mut space = io::large_buffer();
-    let length = io::read_full(drives, &mut space[..4096 * driven]);
-    let n = sets(length, driven) as u64;
-    let mut text = io::large_buffer();
-    let turn = lines::play(image, state, n, &space[..length], &mut text);
-    let end = turn.length;
-    io::write_all(out, &text[..end]);
-    turn
+    4096 * driven(image)
+}
+
+// Plays the sets of drives that these bytes hold, from this state, and puts the lines of the accepted
+// samples at the start of `text`. More sets than a block has are refused, as the block does.
+pub fn play(image: &[u8], state: State, drives: &[u8], text: &mut [u8]) -> Turn
+    requires { ⌜ 22528 ≤ length (now text) ⌝ }
+    ensures { λ r. ⌜ Told (now (image .entry)) state (now (drives .entry)) (now (text .entry)) (r .number) (r .count) (r .state) (r .length) (now (text .exit)) ⌝ }
+{
+    let n = sets(drives.len(), driven(image)) as u64;
+    let mut outputs = [0u8; 4096];
+    let played = block::block(image, state, n, drives, &mut outputs);
+    let length = lines::put_lines(text, &outputs, played.count as usize);
+    let after = played.state;
+    Turn {
+        number: played.number,
+        count: played.count,
+        length: length,
+        state: after,
+    }
 }

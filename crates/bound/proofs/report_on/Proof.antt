@@ -7,17 +7,35 @@ use Rattle.bound.proofs.report_on.Tie as tie
 buffer-requires : tie.Need-buffer-requires
 buffer-requires c κs = search needs
 
-open-argument-requires : tie.Need-open-argument-requires
-open-argument-requires c κs = search needs
+slice-aggregate-arg : tie.Need-slice-aggregate-arg
+slice-aggregate-arg c = search needs
 
-slice-aggregate-contents : tie.Need-slice-aggregate-contents
-slice-aggregate-contents c = search needs
+arg-requires : tie.Need-arg-requires
+arg-requires c κs = search needs
 
-contents-requires : tie.Need-contents-requires
-contents-requires c κs = search needs
+array-share-prefix-path : tie.Need-array-share-prefix-path
+array-share-prefix-path c = search needs
+
+slice-aggregate-open-read : tie.Need-slice-aggregate-open-read
+slice-aggregate-open-read c = search needs
+
+open-read-requires : tie.Need-open-read-requires
+open-read-requires c κs = search needs
 
 buffer-requires-2 : tie.Need-buffer-requires-2
 buffer-requires-2 c κs = search needs
+
+slice-aggregate-read-full : tie.Need-slice-aggregate-read-full
+slice-aggregate-read-full c = search needs
+
+read-full-requires : tie.Need-read-full-requires
+read-full-requires c κs = search needs
+
+close-requires : tie.Need-close-requires
+close-requires c κs = search needs
+
+buffer-requires-3 : tie.Need-buffer-requires-3
+buffer-requires-3 c κs = search needs
 
 slice-aggregate-put : tie.Need-slice-aggregate-put
 slice-aggregate-put c = search needs
@@ -48,10 +66,16 @@ report-on-spec =
     tie.close
     (tie.spec
     buffer-requires
-    open-argument-requires
-    slice-aggregate-contents
-    contents-requires
+    slice-aggregate-arg
+    arg-requires
+    array-share-prefix-path
+    slice-aggregate-open-read
+    open-read-requires
     buffer-requires-2
+    slice-aggregate-read-full
+    read-full-requires
+    close-requires
+    buffer-requires-3
     slice-aggregate-put
     array-share-prefix-image
     slice-aggregate-put-2

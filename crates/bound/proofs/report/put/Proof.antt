@@ -45,7 +45,7 @@ returns-2 c =
     let r = c .before .before .before .before .before .read in
     let p = c .before .before .put-refused in
     let apart : r .result .number ≡ Done → ⊥ = λ e. miss (1 ∷ 2 ∷ 3 ∷ 4 ∷ 5 ∷ 6 ∷ 7 ∷ 8 ∷ 9 ∷ 10 ∷ 11 ∷ []) 0 tt (rw e at (c .before .before .before .before .match .keys2)) in
-    (refused-answered (openingOf (s .args .image .now)) (r .result .number) _ (r .ensures .number) apart (p .ensures .0), omega (arith, p .ensures .1, s .pre, p .kept .0))
+    (refused-answered (openingOf (s .args .image .now)) (r .result .number) (r .ensures .number) apart (p .ensures .0), omega (arith, p .ensures .1, s .pre, p .kept .0))
 
 pub put-spec : {M : Type 1} → statement M
 put-spec =

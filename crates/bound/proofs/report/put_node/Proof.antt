@@ -50,7 +50,7 @@ returns c =
     let second = rw held at (c .before .before .before .before .before .before .before .before .before .before .before .before .before .before .before .put-column2 .ensures) in
     let third = rw steepest at (c .before .before .before .before .before .before .before .before .before .before .before .put-column3 .ensures) in
     let fourth = rw (c .before .before .before .before .before .before .before .before .before .before .before .before .before .before .before .before .before .before .before .before .before .rounded-up .ensures, held, steepest) at (c .before .before .before .before .before .before .before .put-decimal .ensures) in
-    adds-then (adds-then (adds-then (adds-then first second) third) fourth) (c .before .before .put-word .ensures)
+    adds-then first (adds-then second (adds-then third (adds-then fourth (c .before .before .put-word .ensures))))
 
 pub put-node-spec : {M : Type 1} → statement M
 put-node-spec =

@@ -1,16 +1,18 @@
 use mathlib.Core.Path.{_≡_, refl}
 use Prim.Native.Nat.{_*_, _-_, _≤_}
 use native.Mathlib.Omega.{arith}
-use lib.ListN.{length, take}
-use Rattle.circuit.specs.Board.{nodesOn, networkOn}
-use Rattle.bound.specs.Report.{Nodes, none}
-use Rattle.bound.proofs.ReportLaws.{nodes-more}
+use lib.ListN.{length}
+use Rattle.circuit.specs.Board.{nodesOn, drivenOn, networkOn}
+use Rattle.console.specs.Text.{Adds}
+use Rattle.console.proofs.TextLaws.{adds-within}
+use Rattle.bound.specs.Report.{nodeLines}
+use Rattle.bound.proofs.ReportLaws.{nodes-none, nodes-more}
 use borrow.Author.Needs.{needs}
 use Rattle.bound.proofs.report.put_nodes.Statement.{statement}
 use Rattle.bound.proofs.report.put_nodes.Tie as tie
 
 abbrev Inv-loop : tie.InvT-loop
-Inv-loop text₀ board stretches nodes i₀ end₀ text i end = (i ≤ nodes) × (end ≤ 84 * i) × (length text ≡ length text₀) × Nodes (networkOn board stretches) i (take end text)
+Inv-loop text₀ board stretches nodes i₀ end₀ text i end = (i ≤ nodes) × (drivenOn board ≤ i) × (length text ≡ length text₀) × Adds (nodeLines (networkOn board stretches) (i - drivenOn board)) (84 * i) 0 text₀ end text
 
 abbrev μ-loop : tie.MeasureT-loop
 μ-loop text₀ board stretches nodes i₀ end₀ text i end = nodes - i
@@ -25,7 +27,7 @@ loop-holds : tie.Need-loop-holds Inv-loop μ-loop
 loop-holds c =
     let s = c .before .before .before in
     let d = c .driven .ensures in
-    (omega (arith, d, c .before .nodes .ensures, s .pre .0 .limits .wired .driven-there), omega arith, refl, rw d none)
+    (omega (arith, d, c .before .nodes .ensures, s .pre .0 .limits .wired .driven-there), omega (arith, d), refl, nodes-none (networkOn (s .args .board .now) (s .args .stretches .now)) d)
 
 add-i : tie.Need-add-i Inv-loop μ-loop
 add-i c = search needs
@@ -34,16 +36,17 @@ put-node-requires : tie.Need-put-node-requires Inv-loop μ-loop
 put-node-requires c κs =
     let s = c .before .before .before .before .before .before in
     let l = c .before .before .loop .inv in
-    (s .pre .0, omega (arith, l .1, l .2, s .pre .1, s .pre .0 .limits .few-nodes, c .before .before .before .before .nodes .ensures, c .before .loop-test .taken))
+    (s .pre .0, omega (arith, l .2, l .3 .short, l .3 .moved, s .pre .1, s .pre .0 .limits .few-nodes, c .before .before .before .before .nodes .ensures, c .before .loop-test .taken))
 
 loop-less : tie.Need-loop-less Inv-loop μ-loop
 loop-less c = search needs
 
 loop-again : tie.Need-loop-again Inv-loop μ-loop
 loop-again c =
+    let s = c .before .before .before .before .before .before .before .before .before in
     let l = c .before .before .before .before .before .loop .inv in
     let p = c .before .before .put-node in
-    (search needs, omega (arith, l .1, p .ensures .short, p .ensures .moved), search needs, nodes-more (l .3) (p .ensures))
+    (search needs, search needs, search needs, nodes-more (networkOn (s .args .board .now) (s .args .stretches .now)) _ (l .1) (l .3) (p .ensures))
 
 same-length : tie.Need-same-length Inv-loop μ-loop
 same-length c = search needs
@@ -54,7 +57,7 @@ returns c =
     let l = c .before .loop in
     let n = c .before .before .before .nodes .ensures in
     let e : l .i ≡ nodesOn (s .args .board .now) = omega (arith, n, l .inv .0) in
-    (rw e at (l .inv .3), omega (arith, l .inv .1, e, s .pre .0 .limits .few-nodes))
+    rw e at (adds-within {n = 1260} (omega (arith, e, s .pre .0 .limits .few-nodes)) (l .inv .3))
 
 pub put-nodes-spec : {M : Type 1} → statement M
 put-nodes-spec =

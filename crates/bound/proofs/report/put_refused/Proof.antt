@@ -1,5 +1,5 @@
 use native.Mathlib.Omega.{arith}
-use Rattle.console.proofs.TextLaws.{adds-then}
+use Rattle.console.proofs.TextLaws.{adds-then, adds-within}
 use borrow.Author.Needs.{needs}
 use Rattle.bound.proofs.report.put_refused.Statement.{statement}
 use Rattle.bound.proofs.report.put_refused.Tie as tie
@@ -28,8 +28,8 @@ same-length c = search needs
 returns : tie.Need-returns
 returns c =
     let digits = rw (c .before .before .before .before .before .before .before .before .value .ensures) at (c .before .before .before .before .before .before .before .put-decimal .ensures) in
-    let t = adds-then (adds-then (c .before .before .before .before .before .before .before .before .before .before .before .before .put-word .ensures) digits) (c .before .before .put-word2 .ensures) in
-    (rw (t .reads) (t .is), omega (arith, t .short, t .moved))
+    let t = adds-then (c .before .before .before .before .before .before .before .before .before .before .before .before .put-word .ensures) (adds-then digits (c .before .before .put-word2 .ensures)) in
+    (adds-within (omega arith) t, omega (arith, t .short, t .moved))
 
 pub put-refused-spec : {M : Type 1} → statement M
 put-refused-spec =

@@ -1,7 +1,8 @@
 use native.Mathlib.Omega.{arith}
-use Rattle.circuit.specs.Board.{Laid}
-use Rattle.console.proofs.TextLaws.{adds-then}
-use Rattle.bound.proofs.ReportLaws.{laid-is, network-of, report-of}
+use Rattle.circuit.specs.Board.{networkOn, Laid}
+use Rattle.console.proofs.TextLaws.{adds-then, adds-within}
+use Rattle.bound.specs.Report.{Report}
+use Rattle.bound.proofs.ReportLaws.{laid-is, network-of}
 use borrow.Author.Needs.{needs}
 use Rattle.bound.proofs.report.put_report.Statement.{statement}
 use Rattle.bound.proofs.report.put_report.Tie as tie
@@ -44,8 +45,12 @@ returns c =
     let b = c .before .before .before .before .before .before .before .before .before .before .before .before .before .before .before .before .before .before .before .before .before .before .before in
     let s = b .before .before .before .before .before in
     let nodes = c .before .before .before .before .before .before .before .before .before .before .before .before .before .before .before .before .before .before .before .put-nodes .ensures in
-    let last = adds-then (adds-then (c .before .before .before .before .before .before .before .before .before .before .before .put-word .ensures) (c .before .before .before .before .before .before .before .put-decimal .ensures)) (c .before .before .put-word2 .ensures) in
-    (rw (network-of (s .args .parts) _ _ (s .pre .0) (b .board .ensures) (b .before .before .stretches2 .ensures)) at (report-of (nodes .0) (c .before .before .before .before .before .before .before .before .before .before .before .before .before .before .greatest .ensures) last), omega (arith, nodes .1, last .short, last .moved))
+    let last = adds-then nodes (adds-then (c .before .before .before .before .before .before .before .before .before .before .before .put-word .ensures) (adds-then (c .before .before .before .before .before .before .before .put-decimal .ensures) (c .before .before .put-word2 .ensures))) in
+    let most = c .before .before .before .before .before .before .before .before .before .before .before .before .before .before .greatest in
+    let board = b .board .result in
+    let stretches = b .before .before .stretches2 .last .1 .0 in
+    let report : Report (networkOn board stretches) _ _ _ = record { most = most .result; is-greatest = most .ensures; text = adds-within {n = 4096} (omega arith) last } in
+    (rw (network-of (s .args .parts) board stretches (s .pre .0) (b .board .ensures) (b .before .before .stretches2 .ensures)) at report, omega (arith, last .short, last .moved))
 
 pub put-report-spec : {M : Type 1} → statement M
 put-report-spec =

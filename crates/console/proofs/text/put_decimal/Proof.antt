@@ -1,9 +1,7 @@
-use mathlib.Core.Path.{_≡_, sym, _∙_}
-use Prim.Native.Nat.{_≤_}
+use mathlib.Core.Path.{_∙_}
 use native.Mathlib.Omega.{arith}
-use lib.ListN.{length, take}
 use borrow.Author.Needs.{needs}
-use Rattle.console.proofs.TextLaws.{adds-as, few-digits}
+use Rattle.console.proofs.TextLaws.{adds-within, decimal-is, few-digits}
 use Rattle.console.proofs.text.put_decimal.Statement.{statement}
 use Rattle.console.proofs.text.put_decimal.Tie as tie
 
@@ -29,10 +27,8 @@ returns : tie.Need-returns
 returns c =
     let d = c .before .before .before .before .before .decimal in
     let s = c .before .before .before .before .before .before .before .before in
-    adds-as
-    (λ w e. record { places = d .result; fewest = d .ensures .1 .0; spelt = sym e ∙ d .ensures .1 .1 })
-    (omega (arith, few-digits (d .ensures .1 .0) (s .fits .n .fits), d .ensures .0 .1))
-    (c .before .before .put-word .ensures)
+    let spelt = rw (d .ensures .1 .1 ∙ decimal-is (d .ensures .1 .0)) at (c .before .before .put-word .ensures) in
+    adds-within (omega (arith, few-digits (d .ensures .1 .0) (s .fits .n .fits), d .ensures .0 .1)) spelt
 
 pub put-decimal-spec : {M : Type 1} → statement M
 put-decimal-spec =

@@ -1,7 +1,7 @@
-use native.Mathlib.Omega.{arith}
 use mir.Facts.{toZ-ofZ}
 use borrow.Author.Needs.{needs}
-use Rattle.console.proofs.TextLaws.{adds-then, adds-as, line-of}
+use Rattle.console.specs.Text.{line}
+use Rattle.console.proofs.TextLaws.{adds-then}
 use Rattle.console.proofs.text.put_line.Statement.{statement}
 use Rattle.console.proofs.text.put_line.Tie as tie
 
@@ -24,13 +24,14 @@ same-length : tie.Need-same-length
 same-length c = search needs
 
 returns : tie.Need-returns
+unfolding line
 returns c =
     let s = c .before .before .before .before .before .before .before .before .before .before .before .before .before .before .before in
     let e = toZ-ofZ (s .fits .z) in
     let sign = rw e at (c .before .before .before .before .before .before .before .before .before .before .before .before .put-sign .ensures) in
     let size = rw e at (c .before .before .before .before .before .before .before .before .size .ensures) in
     let digits = rw size at (c .before .before .before .before .before .before .before .put-decimal .ensures) in
-    adds-as line-of (omega arith) (adds-then (adds-then sign digits) (c .before .before .put-word .ensures))
+    adds-then sign (adds-then digits (c .before .before .put-word .ensures))
 
 pub put-line-spec : {M : Type 1} → statement M
 put-line-spec =

@@ -1,11 +1,10 @@
 use mathlib.Core.Path.{_≡_, sym, _∙_}
 use mathlib.Core.Bool.{true, false}
-use native.Mathlib.Omega.{arith}
 use lib.IntN.{pos}
 use lib.Signed.{ltZ}
 use mir.Facts.{toZ-ofZ}
 use borrow.Author.Needs.{needs}
-use Rattle.console.proofs.TextLaws.{adds-as, adds-none, sign-below, sign-above}
+use Rattle.console.proofs.TextLaws.{adds-none, sign-below, sign-above}
 use Rattle.console.proofs.text.put_sign.Statement.{statement}
 use Rattle.console.proofs.text.put_sign.Tie as tie
 
@@ -26,14 +25,14 @@ returns c =
     let s = c .before .before .before .before .before .before .before .before in
     let z = s .args .z in
     let below : ltZ z (pos 0) ≡ true = sym (rw (toZ-ofZ (s .fits .z)) at (c .before .before .before .before .before .before .less .ensures)) ∙ c .before .before .before .before .before .if1 .taken in
-    adds-as (λ w e. sign-below z below ∙ e) (omega arith) (c .before .before .put-word .ensures)
+    rw (sign-below z below) (c .before .before .put-word .ensures)
 
 returns-2 : tie.Need-returns-2
 returns-2 c =
     let s = c .before .before .before in
     let z = s .args .z in
     let above : ltZ z (pos 0) ≡ false = sym (rw (toZ-ofZ (s .fits .z)) at (c .before .less .ensures)) ∙ c .if1 .left in
-    adds-as {m = 1} (λ w e. sign-above z above ∙ e) (omega arith) adds-none
+    rw (sign-above z above) adds-none
 
 pub put-sign-spec : {M : Type 1} → statement M
 put-sign-spec =

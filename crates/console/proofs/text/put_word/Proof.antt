@@ -1,22 +1,22 @@
-use mathlib.Core.Path.{_≡_, refl, sym, _∙_, ap}
-use mathlib.Core.List.{List}
-use Prim.Native.Nat.{ℕ, _+_, _-_, _≤_, _<_}
-use native.Mathlib.Numerals.{add-one}
+use mathlib.Core.Path.{_≡_, refl, _∙_}
+use Prim.Native.Nat.{_-_, _≤_}
 use native.Mathlib.Omega.{arith}
 use lib.ListN.{length, take, length-set}
-use lib.Seq.{paste, paste-zero, paste-suc, take-paste, take-length}
+use lib.Seq.{take-length}
 use borrow.Author.Needs.{needs}
+use Rattle.units.specs.Table.{overlaid}
+use Rattle.console.proofs.TextLaws.{overlaid-none, overlaid-more}
 use Rattle.console.proofs.text.put_word.Statement.{statement}
 use Rattle.console.proofs.text.put_word.Tie as tie
 
 abbrev Inv-loop : tie.InvT-loop
-Inv-loop text₀ at word j₀ text j = (j ≤ length word) × (length text ≡ length text₀) × (text ≡ paste text₀ at word j)
+Inv-loop text₀ at word j₀ text j = (j ≤ length word) × (length text ≡ length text₀) × (text ≡ overlaid text₀ at (take j word))
 
 abbrev μ-loop : tie.MeasureT-loop
 μ-loop text₀ at word j₀ text j = length word - j
 
 loop-holds : tie.Need-loop-holds Inv-loop μ-loop
-loop-holds c = (search needs, refl, paste-zero (c .args .text .now) (c .args .at) (c .args .word .now))
+loop-holds c = (search needs, refl, overlaid-none (c .args .text .now) (c .args .at) (c .args .word .now))
 
 shared-slice-read-text : tie.Need-shared-slice-read-text Inv-loop μ-loop
 shared-slice-read-text c = search needs
@@ -37,8 +37,7 @@ loop-again : tie.Need-loop-again Inv-loop μ-loop
 loop-again c =
     let l = c .before .before .loop in
     let a = c .before .before .before .args in
-    let room = c .before .before .before .pre in
-    (search needs, simp length-set (search needs), rw (l .inv .2, add-one) (paste-suc (a .text .now) (a .at) (a .word .now) (l .j) 0 (omega (arith, room, c .before .loop-test .taken)) (c .before .loop-test .taken)))
+    (search needs, simp length-set (search needs), rw (l .inv .2) (overlaid-more (a .text .now) (a .at) (a .word .now) (l .j) (c .before .loop-test .taken)))
 
 add-result : tie.Need-add-result Inv-loop μ-loop
 add-result c = search needs
@@ -51,13 +50,7 @@ returns c =
     let l = c .before .loop in
     let a = c .before .before .args in
     let e : l .j ≡ length (a .word .now) = omega (arith, l .inv .0) in
-    record {
-      word = a .word .now;
-      is = refl;
-      short = omega arith;
-      moved = rw e;
-      reads = rw (l .inv .2, e) (take-paste (a .text .now) (a .at) (a .word .now) (length (a .word .now)) (omega (arith, c .before .before .pre)) (omega arith) ∙ rw take-length);
-    }
+    record { short = omega arith; moved = rw e; buffer = l .inv .2 ∙ rw e (rw take-length) }
 
 pub put-word-spec : {M : Type 1} → statement M
 put-word-spec =

@@ -1,6 +1,6 @@
 use native.Mathlib.Omega.{arith}
-use Rattle.console.proofs.TextLaws.{adds-then, adds-as}
-use Rattle.rendering.proofs.RenderingLaws.{closing-refused}
+use Rattle.console.proofs.TextLaws.{adds-then, adds-within}
+use Rattle.rendering.proofs.RenderingLaws.{ending-refused}
 use borrow.Author.Needs.{needs}
 use Rattle.rendering.proofs.ending.put_ending.Statement.{statement}
 use Rattle.rendering.proofs.ending.put_ending.Tie as tie
@@ -28,7 +28,7 @@ returns c =
     let word = c .before .before .before .before .before .before .before .before .before .before .before .put-word .ensures in
     let digits = c .before .before .before .before .before .before .before .put-decimal .ensures in
     let zero = c .before .before .before .before .before .before .before .before .before .before .before .before .before .before .if1 .taken in
-    rw zero (adds-as (λ w t. t) (omega arith) (adds-then (adds-then word digits) (c .before .before .put-word2 .ensures)))
+    rw zero (adds-within (omega arith) (adds-then word (adds-then digits (c .before .before .put-word2 .ensures))))
 
 slice-aggregate-put-word-3 : tie.Need-slice-aggregate-put-word-3
 slice-aggregate-put-word-3 c = search needs
@@ -64,7 +64,8 @@ returns-2 c =
     let after = c .before .before .before .before .before .before .before .before .before .before .before .put-word4 .ensures in
     let count = c .before .before .before .before .before .before .before .put-decimal3 .ensures in
     let a = c .before .before .before .before .before .before .before .before .before .before .before .before .before .before .before .before .before .before .before .before .before .before .before .before .before .args in
-    adds-as (closing-refused (a .number) (a .count) (c .before .before .before .before .before .before .before .before .before .before .before .before .before .before .before .before .before .before .before .before .before .before .before .if1 .left)) (omega arith) (adds-then (adds-then (adds-then (adds-then word number) after) count) (c .before .before .put-word5 .ensures))
+    let refused = c .before .before .before .before .before .before .before .before .before .before .before .before .before .before .before .before .before .before .before .before .before .before .before .if1 .left in
+    ending-refused (a .number) (a .count) refused (adds-within (omega arith) (adds-then word (adds-then number (adds-then after (adds-then count (c .before .before .put-word5 .ensures))))))
 
 pub put-ending-spec : {M : Type 1} → statement M
 put-ending-spec =

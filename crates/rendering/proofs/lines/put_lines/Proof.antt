@@ -1,23 +1,24 @@
-use mathlib.Core.Path.{_≡_, refl, sym, _∙_, ap}
-use Prim.Native.Nat.{ℕ, _+_, _*_, _-_, _≤_, _<_}
+use mathlib.Core.Path.{_≡_, refl}
+use Prim.Native.Nat.{_*_, _-_, _≤_}
 use native.Mathlib.Omega.{arith}
-use lib.ListN.{length, take}
+use lib.ListN.{length}
 use mir.Syntax.{w64}
 use mir.Val.{toZ, ofZ}
-use Rattle.rendering.specs.Rendering.{outputAt, Lines, none}
-use Rattle.rendering.proofs.RenderingLaws.{lines-more}
+use Rattle.console.specs.Text.{Adds}
+use Rattle.rendering.specs.Rendering.{outputAt, lines}
+use Rattle.rendering.proofs.RenderingLaws.{lines-none, lines-more}
 use borrow.Author.Needs.{needs}
 use Rattle.rendering.proofs.lines.put_lines.Statement.{statement}
 use Rattle.rendering.proofs.lines.put_lines.Tie as tie
 
 abbrev Inv-loop : tie.InvT-loop
-Inv-loop text₀ outputs n end₀ j₀ text end j = (j ≤ n) × (end ≤ 22 * j) × (length text ≡ length text₀) × Lines (outputAt outputs) j (take end text)
+Inv-loop text₀ outputs n end₀ j₀ text end j = (j ≤ n) × (length text ≡ length text₀) × Adds (lines (outputAt outputs) j) (22 * j) 0 text₀ end text
 
 abbrev μ-loop : tie.MeasureT-loop
 μ-loop text₀ outputs n end₀ j₀ text end j = n - j
 
 loop-holds : tie.Need-loop-holds Inv-loop μ-loop
-loop-holds c = (search needs, search needs, refl, none)
+loop-holds c = (search needs, refl, lines-none (outputAt (c .before .before .args .outputs .now)))
 
 mul-i32-at : tie.Need-mul-i32-at Inv-loop μ-loop
 mul-i32-at c = search needs
@@ -42,7 +43,7 @@ loop-again c =
     let z = i .result in
     let e : toZ w64 (ofZ w64 z) ≡ z = search needs in
     let line = rw (e, i .ensures) at (p .ensures) in
-    (search needs, omega (arith, l .inv .1, line .short, line .moved), search needs, lines-more (l .inv .3) line)
+    (search needs, search needs, lines-more (outputAt (c .before .before .before .before .before .before .before .before .before .args .outputs .now)) (l .j) (l .inv .2) line)
 
 same-length : tie.Need-same-length Inv-loop μ-loop
 same-length c = search needs
@@ -51,7 +52,7 @@ returns : tie.Need-returns Inv-loop μ-loop
 returns c =
     let l = c .before .loop in
     let e : l .j ≡ c .before .before .before .before .args .n = omega (arith, l .inv .0) in
-    (rw e at (l .inv .3), omega (arith, l .inv .1))
+    rw e at (l .inv .2)
 
 pub put-lines-spec : {M : Type 1} → statement M
 put-lines-spec =
