@@ -7,7 +7,8 @@ use Rattle.units.specs.Table.{overlaid}
 use Rattle.image.specs.Format.{openingOf}
 use Rattle.block.specs.declared.call.State.{State}
 use Rattle.block.proofs.OneOutcome.{plays-once}
-use Rattle.rendering.specs.Rendering.{noOutputs, drivenOf, setsIn, outputAt, lines, Told}
+use Rattle.block.specs.Host.{outputAt}
+use Rattle.rendering.specs.Rendering.{noOutputs, drivenOf, setsIn, lines, Told}
 
 -- what comes of one turn, put beside what else might
 pub record SameTold (n₁ n₂ c₁ c₂ : ℕ) (y₁ y₂ : State) (r₁ r₂ : ℕ) (t₁ t₂ : List ℕ) : Type 0 where

@@ -6,11 +6,9 @@ use Prim.Native.Nat.{ℕ, zero, suc, _*_, _/_, _≤_}
 use lib.Dec.{eqb}
 use lib.IntN.{ℤ}
 use lib.ListN.{length, replicate}
-use mir.Syntax.{w32}
-use mir.Val.{toZ}
-use Rattle.units.specs.Bytes.{littleEndian}
 use Rattle.image.specs.Format.{Opening, openingOf, opened, refused}
 use Rattle.block.specs.Block.{Plays}
+use Rattle.block.specs.Host.{outputAt}
 use Rattle.block.specs.declared.call.State.{State}
 use Rattle.console.specs.Text.{decimal, lineEnd, line, refusedWord, Adds}
 
@@ -29,10 +27,6 @@ drivenOf (refused number) = 0
 -- how many full sets of drives so many bytes hold: none if no node is driven
 unfoldable pub setsIn : ℕ → ℕ → ℕ
 setsIn bytes driven = cond (eqb driven 0) 0 (bytes / (4 * driven))
-
--- output j of a block's bytes
-abbrev pub outputAt : List ℕ → ℕ → ℤ
-outputAt outputs j = toZ w32 (littleEndian 4 outputs (4 * j))
 
 -- the first n of these numbers, a line each
 unfoldable pub lines : (ℕ → ℤ) → ℕ → List ℕ

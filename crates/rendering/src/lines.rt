@@ -4,7 +4,8 @@ use units::bytes;
 ghost use Prim.Native.Nat.{_*_, _≤_};
 ghost use lib.ListN.{length};
 ghost use Rattle.console.specs.Text.{Adds};
-ghost use Rattle.rendering.specs.Rendering.{outputAt, lines};
+ghost use Rattle.block.specs.Host.{outputAt};
+ghost use Rattle.rendering.specs.Rendering.{lines};
 
 // The first n of a block's outputs, a line each, at the start of `text`. Where they end.
 pub fn put_lines(text: &mut [u8], outputs: &[u8], n: usize) -> usize

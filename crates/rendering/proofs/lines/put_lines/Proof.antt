@@ -5,7 +5,8 @@ use lib.ListN.{length}
 use mir.Syntax.{w64}
 use mir.Val.{toZ, ofZ}
 use Rattle.console.specs.Text.{Adds}
-use Rattle.rendering.specs.Rendering.{outputAt, lines}
+use Rattle.block.specs.Host.{outputAt}
+use Rattle.rendering.specs.Rendering.{lines}
 use Rattle.rendering.proofs.RenderingLaws.{lines-none, lines-more}
 use borrow.Author.Needs.{needs}
 use Rattle.rendering.proofs.lines.put_lines.Statement.{statement}
