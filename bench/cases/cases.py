@@ -1,7 +1,9 @@
 """Makes the files of every case in crates/render, which rt runs on them all, or checks them.
 
-cases.py make PROGRAM    writes data/NAME.image and data/NAME.drives from the case files, their names to args, and PROGRAM's lines to stdout
-cases.py check PROGRAM   exit 1 unless the files are what the case files say and PROGRAM writes the case's lines
+cases.py make PROGRAM..    writes data/NAME.image and data/NAME.drives from the case files, their names to args, and PROGRAM's lines to stdout
+cases.py check PROGRAM..   exit 1 unless the files are what the case files say and PROGRAM writes the case's lines
+
+PROGRAM may be of several words, an emulator's before its own.
 """
 
 import pathlib
@@ -34,7 +36,7 @@ def contents(path):
 
 
 def lines_of(program, name):
-    run = subprocess.run([program, DATA / f"{name}.image", DATA / f"{name}.drives"], stdout=subprocess.PIPE)
+    run = subprocess.run([*program, DATA / f"{name}.image", DATA / f"{name}.drives"], stdout=subprocess.PIPE)
     return run.stdout if run.returncode == 0 else f"exit {run.returncode}".encode()
 
 
@@ -73,7 +75,7 @@ def complaints(program, name, build, lines):
         if contents(DATA / f"{name}.{kind}") != wanted:
             yield f"{name}.{kind} is not what the case says"
     if lines_of(program, name) != lines:
-        yield f"{program} does not write the lines of {name}"
+        yield f"{program[-1]} does not write the lines of {name}"
     if not " ".join(lines.decode().split()).endswith(build.expected):
         yield f"the lines of {name} do not end with: {build.expected}"
 
@@ -92,6 +94,6 @@ def check(program):
 
 
 if __name__ == "__main__":
-    if len(sys.argv) != 3 or sys.argv[1] not in ("make", "check"):
+    if len(sys.argv) < 3 or sys.argv[1] not in ("make", "check"):
         sys.exit(__doc__)
-    sys.exit({"make": make, "check": check}[sys.argv[1]](sys.argv[2]))
+    sys.exit({"make": make, "check": check}[sys.argv[1]](sys.argv[2:]))

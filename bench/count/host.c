@@ -1,9 +1,9 @@
 /* host IMAGE DRIVES: how many net currents a sample took, in the mean and at most, over one block.
    host --time RUNS IMAGE DRIVES: nanoseconds per sample, the median of RUNS runs, each of at least a tenth of a second.
+   host --call RUNS IMAGE DRIVES: the same of a call of no samples.
 
    Counting wants the block that instrument.py went through, which calls what is exported here; timing wants the plain one. One block,
    since only within a block does a sample begin at the voltages of the one before it. */
-#include <inttypes.h>
 #include <stdio.h>
 #include <stdlib.h>
 #include <string.h>
@@ -49,26 +49,27 @@ static void count(void)
     for (size_t j = 0; j < samples; j++)
         if (greatest < marks[j + 1] - marks[j])
             greatest = marks[j + 1] - marks[j];
-    printf("%.1f %" PRIu64 "\n", (double)marks[samples] / (double)samples, greatest);
+    printf("%.1f %llu\n", (double)marks[samples] / (double)samples, (unsigned long long)greatest);
 }
 
 int main(int words, char **word)
 {
-    long runs = words == 5 && strcmp(word[1], "--time") == 0 ? atol(word[2]) : 0;
+    int call = words == 5 && strcmp(word[1], "--call") == 0;
+    long runs = call || (words == 5 && strcmp(word[1], "--time") == 0) ? atol(word[2]) : 0;
     if (words != 3 && runs < 1) {
-        fprintf(stderr, "host [--time RUNS] IMAGE DRIVES\n");
+        fprintf(stderr, "host [--time RUNS | --call RUNS] IMAGE DRIVES\n");
         return 1;
     }
     image_length = contents(word[words - 2], image, sizeof image);
     drives_length = contents(word[words - 1], drives, sizeof drives);
     /* Every circuit of the table has one driven node. */
-    samples = drives_length / 4;
-    if (samples == 0) {
+    samples = call ? 0 : drives_length / 4;
+    if (samples == 0 && !call) {
         fprintf(stderr, "no samples\n");
         return 1;
     }
     if (runs)
-        printf("%.1f\n", 1e9 * median((size_t)runs, play, NULL) / (double)samples);
+        printf("%.1f\n", 1e9 * median((size_t)runs, play, NULL) / (double)(call ? 1 : samples));
     else
         count();
     return 0;

@@ -1,15 +1,22 @@
 #!/bin/sh
-# module.sh OUT.ll: the LLVM module of the proved block, as text, for this machine's own processor.
+# module.sh OUT.ll: the LLVM module of the proved block, as text, and beside it OUT.a, the archive that is shipped, from the same run.
 #
 # `rt staticlib` compiles for x86-64 alone and with that processor's oldest instructions: on an Arm machine its archive links into nothing,
 # and an emulated time says nothing. So the module is taken on its way to the toolchain's clang, which is a link here to a script
-# that keeps a copy; the toolchain itself stays as it is. For measuring and for host tests: what is shipped is the archive.
+# that keeps a copy; the toolchain itself stays as it is. object.sh compiles the module for this machine's processor or another one.
 set -eu
 cd "$(dirname "$0")/../.."
 out=$1
 machine=$(uname -m)
 home=$(dirname "$(dirname "$(rt doc)")")
 tools=$home/on/$machine/toolchain
+
+# Both are made anew only if something that they are made from has changed: proving and compiling takes half a minute.
+sum=$(find crates crates.txt bench/native/module.sh "$home/KIT-ID" -type f -exec sha256sum {} + | sort | sha256sum)
+made="; made from ${sum%% *}"
+if [ -e "${out%.ll}.a" ] && [ -e "$out" ] && [ "$(head -n 1 "$out")" = "$made" ]; then
+    exit
+fi
 room=$(mktemp -d)
 trap 'rm -rf "$room"' EXIT
 
@@ -34,12 +41,10 @@ chmod +x "$kit/on/$machine/toolchain/bin/clang"
 RATTLE_HOME=$kit rt staticlib block >&2
 
 "$tools/bin/clang" --target=x86_64-unknown-linux-gnu -x ir -S -emit-llvm -O0 "$room/module.bc" -o "$room/module.ll"
+mkdir -p "$(dirname "$out")"
+cp target/staticlib/libblock.a "${out%.ll}.a"
 # The processor that the module names gives way to the one that it is compiled for.
-anywhere='s/"target-cpu"="[^"]*"//; s/"target-features"="[^"]*"//'
-case $machine in
-x86_64) sed "$anywhere" "$room/module.ll" ;;
-aarch64)
-    sed -e 's/^target datalayout = .*/target datalayout = "e-m:e-p270:32:32-p271:32:32-p272:64:64-i8:8:32-i16:16:32-i64:64-i128:128-n32:64-S128-Fn32"/' \
-        -e 's/x86_64-unknown-linux-gnu/aarch64-unknown-linux-gnu/' -e "$anywhere" "$room/module.ll"
-    ;;
-esac >"$out"
+{
+    echo "$made"
+    sed 's/"target-cpu"="[^"]*"//; s/"target-features"="[^"]*"//' "$room/module.ll"
+} >"$out"
