@@ -1,9 +1,9 @@
-/* Plays a sine through a diode clipper, block by block, and checks every answer.
+/* Plays a sine through a diode clipper, block by block, and stops at the first refusal (refusal.c goes on after one).
  * 1,000 ohm from driven node 1 to node 2; from node 2 to ground a diode that opens at 600 mV, and one the other way round. */
 #include <math.h>
 #include <stdio.h>
-#include <string.h>
 
+#include "bytes.h"
 #include "krtovalin.h"
 
 static const uint8_t image[] = {
@@ -17,21 +17,6 @@ static const uint8_t image[] = {
     40, 0, 16, 0, 3, 1, 2, 1, 0x80, 0xBB, 0, 0, 2, 1, 16, 0,
 };
 
-static void put(uint8_t *at, int32_t v)
-{
-    uint32_t u = (uint32_t)v;
-    for (int i = 0; i < 4; i++)
-        at[i] = (uint8_t)(u >> (8 * i));
-}
-
-static int32_t get(const uint8_t *at)
-{
-    uint32_t u = 0;
-    for (int i = 0; i < 4; i++)
-        u |= (uint32_t)at[i] << (8 * i);
-    return (int32_t)u;
-}
-
 int main(void)
 {
     enum { samples = 64, blocks = 4 };
@@ -44,7 +29,7 @@ int main(void)
                                           drives, sizeof drives, outputs, sizeof outputs);
         for (unsigned i = 0; i < KRTOVALIN_COUNT(answer); i++)
             printf("%d\n", (int)get(outputs + 4 * i));
-        if (KRTOVALIN_NUMBER(answer) != 0) {
+        if (KRTOVALIN_NUMBER(answer) != KRTOVALIN_DONE) {
             fprintf(stderr, "block %d: refused by number %u after %u samples\n", b, KRTOVALIN_NUMBER(answer), KRTOVALIN_COUNT(answer));
             return 1;
         }

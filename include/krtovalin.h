@@ -2,8 +2,10 @@
  *
  * One function. It keeps no memory of its own: no heap, no globals, no locks, so that it may be called from any number of
  * threads or interrupt levels at once, each with its own buffers. No pointer needs any alignment. The buffers must not overlap,
- * except that image and drives, which are only read, may. A pointer whose length is 0 may not be null: pass any valid address.
- * Stack: 23,792 bytes, measured on a 64-bit Arm over all circuits of bench/cases; allow 24 KiB.
+ * except that image and drives, which are only read, may. A pointer whose length is 0 may be null.
+ *
+ * Stack, measured over all circuits of bench/cases: 23,768 bytes on x86-64, 23,792 on a 64-bit Arm, 23,492 on a
+ * Cortex-M7. Allow 24 KiB.
  */
 #ifndef KRTOVALIN_H
 #define KRTOVALIN_H
@@ -11,9 +13,20 @@
 #include <stddef.h>
 #include <stdint.h>
 
+#if defined(__cplusplus) && __cplusplus >= 201103L
+#define KRTOVALIN_ASSERT(fact, words) static_assert(fact, words)
+#elif defined(__STDC_VERSION__) && __STDC_VERSION__ >= 201112L
+#define KRTOVALIN_ASSERT(fact, words) _Static_assert(fact, words)
+#else
+#define KRTOVALIN_ASSERT(fact, words) typedef char krtovalin_assert[(fact) ? 1 : -1]
+#endif
+
 #ifdef __cplusplus
 extern "C" {
 #endif
+
+/* The version of this interface, raised by each change that a host has to follow. */
+#define KRTOVALIN_VERSION 1
 
 /* The length of a state: 32 stored currents, an int64_t each, little-endian, in femtoamperes. A fresh state is all zeros. */
 #define KRTOVALIN_STATE 256
@@ -25,6 +38,25 @@ extern "C" {
 #define KRTOVALIN_NUMBER(answer) ((unsigned)((answer) >> 16))
 #define KRTOVALIN_COUNT(answer) ((unsigned)((answer) & 0xffff))
 
+/* An answer's number. */
+enum krtovalin_number {
+    KRTOVALIN_DONE = 0,                /* all n samples were played; the count is n */
+    KRTOVALIN_REFUSED_LENGTH = 1,      /* the image is shorter than 24 or longer than 1,360 bytes */
+    KRTOVALIN_REFUSED_TRAILER = 2,     /* a field of the image's trailer other than its distances is outside its range */
+    KRTOVALIN_REFUSED_SIZES = 3,       /* a distance, a length or a curve's size does not fit exactly */
+    KRTOVALIN_REFUSED_CURVE = 4,       /* a curve's padding, slope or breakpoint */
+    KRTOVALIN_REFUSED_ELEMENT = 5,     /* an element's field */
+    KRTOVALIN_REFUSED_CONDUCTANCE = 6, /* a conductance outside its limit */
+    KRTOVALIN_REFUSED_STATE = 7,       /* the state: another length, a stored current beyond its limit, or one where none can be */
+    KRTOVALIN_REFUSED_LENGTHS = 8,     /* n above 4,096, too few drives, or too few output places */
+    KRTOVALIN_REFUSED_DRIVE = 9,       /* a drive of the sample is beyond 16,777,216 microvolts either way */
+    KRTOVALIN_REFUSED_RAIL = 10,       /* no voltages in range, or a free node at the top of the range */
+    KRTOVALIN_REFUSED_STORED = 11      /* a new stored current beyond its limit */
+};
+
+/* The code takes each length as 64 bits on every processor, so that is what is declared; any size_t goes into it. */
+KRTOVALIN_ASSERT(sizeof(uint64_t) == 8 && sizeof(size_t) <= 8 && sizeof(void *) <= 8, "lengths and addresses are of 64 bits at the most");
+
 /* Plays a block of n samples of the circuit in `image`.
  *
  * drives   n times d int32_t, little-endian, in microvolts: sample by sample, nodes 1 to d in turn (d is the image's driven
@@ -32,30 +64,15 @@ extern "C" {
  * outputs  n int32_t, little-endian: the output node's voltage in microvolts. Bytes past the count keep their contents.
  * state    exactly KRTOVALIN_STATE bytes, carried from one block to the next. It is written only when the count is above 0.
  *
- * Returns number x 65,536 + count:
- *
- *    0  all n samples were played; the count is n
- *    1  the image is shorter than 24 or longer than 1,360 bytes
- *    2  a field of the image's trailer other than its distances is outside its range
- *    3  a distance, a length or a curve's size does not fit exactly
- *    4  a curve's padding, slope or breakpoint
- *    5  an element's field
- *    6  a conductance outside its limit
- *    7  the state: another length, a stored current beyond its limit, or one where none can be
- *    8  n above 4,096, too few drives, or too few output places
- *    9  a drive of the sample is beyond 16,777,216 microvolts either way
- *   10  the rail: no voltages in range, or a free node at the top of the range
- *   11  a new stored current beyond its limit
- *
- * The lowest number that applies is given. With 1 to 8 the count is 0 and nothing is written. With 9 to 11 the count is the number of
- * samples before the refused one: those are in outputs, and state is the state after them. n may be 0, and is then accepted if
- * everything else is.
+ * Returns number x 65,536 + count. The lowest number that applies is given. With 1 to 8 the count is 0 and nothing is written. With 9
+ * to 11 the count is the number of samples before the refused one: those are in outputs, and state is the state after them; a host
+ * may go on from there (examples/refusal.c). n may be 0, and is then accepted if everything else is.
  */
-uint64_t krtovalin_block(const uint8_t *image, size_t image_len,
-                         uint8_t *state, size_t state_len,
+uint64_t krtovalin_block(const uint8_t *image, uint64_t image_len,
+                         uint8_t *state, uint64_t state_len,
                          uint64_t n,
-                         const uint8_t *drives, size_t drives_len,
-                         uint8_t *outputs, size_t outputs_len);
+                         const uint8_t *drives, uint64_t drives_len,
+                         uint8_t *outputs, uint64_t outputs_len);
 
 #ifdef __cplusplus
 }

@@ -10,6 +10,8 @@
 #include "krtovalin.h"
 #include "../second/second.h"
 
+#define NUMBERS (KRTOVALIN_REFUSED_STORED + 1)
+
 static uint64_t seed = 88172645463325252u;
 
 static uint64_t draw(void)
@@ -30,19 +32,32 @@ struct bytes {
     size_t length;
 };
 
+/* no bytes may be anywhere, and at null too */
 static struct bytes make(size_t length)
 {
-    struct bytes b = {malloc(length ? length : 1), length};
-    if (!b.at)
+    struct bytes b = {length || below(2) ? malloc(length) : NULL, length};
+    if (length && !b.at)
         exit(2);
+    return b;
+}
+
+/* the first so many bytes of some others */
+static struct bytes start(struct bytes from, size_t length)
+{
+    struct bytes b = make(length);
+    if (length)
+        memcpy(b.at, from.at, length);
     return b;
 }
 
 static struct bytes copy(struct bytes from)
 {
-    struct bytes b = make(from.length);
-    memcpy(b.at, from.at, from.length);
-    return b;
+    return start(from, from.length);
+}
+
+static int alike(struct bytes one, struct bytes other)
+{
+    return one.length == 0 || memcmp(one.at, other.at, one.length) == 0;
 }
 
 static struct bytes load(const char *name)
@@ -55,6 +70,12 @@ static struct bytes load(const char *name)
     return b;
 }
 
+/* below that many; now and then none */
+static size_t some_length(size_t most)
+{
+    return below(20) ? below(most) : 0;
+}
+
 /* now and then bytes changed, or the end cut off */
 static struct bytes damaged(struct bytes from)
 {
@@ -63,11 +84,9 @@ static struct bytes damaged(struct bytes from)
         for (uint64_t i = 0, n = 1 + below(3); i < n && b.length; i++)
             b.at[below(b.length)] = (uint8_t)draw();
     if (below(50) == 0 && b.length) {
-        b.length = below(b.length);
-        uint8_t *cut = malloc(b.length ? b.length : 1);
-        memcpy(cut, b.at, b.length);
+        struct bytes cut = start(b, some_length(b.length));
         free(b.at);
-        b.at = cut;
+        return cut;
     }
     return b;
 }
@@ -82,9 +101,10 @@ static void put(uint8_t *at, uint64_t v, int n)
 static struct bytes some_state(void)
 {
     static const int64_t marks[] = {1, -1, 144115188075855872, -144115188075855872, 144115188075855873, -144115188075855873, INT64_MIN};
-    struct bytes b = make(below(40) ? KRTOVALIN_STATE : below(520));
+    struct bytes b = make(below(40) ? KRTOVALIN_STATE : some_length(520));
     uint64_t kind = below(8);
-    memset(b.at, 0, b.length);
+    for (size_t j = 0; j < b.length; j++)
+        b.at[j] = 0;
     for (size_t j = 0; 8 * j + 8 <= b.length; j++)
         if (kind == 6 && below(6) == 0)
             put(b.at + 8 * j, (uint64_t)marks[below(7)], 8);
@@ -95,7 +115,7 @@ static struct bytes some_state(void)
 
 static struct bytes some_drives(void)
 {
-    struct bytes b = make(below(140));
+    struct bytes b = make(some_length(140));
     uint64_t kind = below(6);
     for (size_t j = 0; 4 * j + 4 <= b.length; j++) {
         int64_t v = (int64_t)below(4000001) - 2000000;
@@ -112,27 +132,27 @@ int main(int argc, char **argv)
 {
     unsigned long calls = argc > 2 ? strtoul(argv[1], NULL, 10) : 0;
     int images = argc - 2;
-    unsigned long numbers[12] = {0};
+    unsigned long numbers[NUMBERS] = {0};
     for (unsigned long call = 0; call < calls; call++) {
         struct bytes whole = load(argv[2 + below((uint64_t)images)]);
-        struct bytes image = damaged(whole), state = some_state(), drives = some_drives(), outputs = make(below(80));
+        struct bytes image = damaged(whole), state = some_state(), drives = some_drives(), outputs = make(some_length(80));
         uint64_t n = below(20) ? below(12) : draw() >> below(64);
         for (size_t i = 0; i < outputs.length; i++)
             outputs.at[i] = (uint8_t)draw();
         struct bytes state2 = copy(state), outputs2 = copy(outputs);
         uint64_t a = krtovalin_block(image.at, image.length, state.at, state.length, n, drives.at, drives.length, outputs.at, outputs.length);
         uint64_t b = second_block(image.at, image.length, state2.at, state2.length, n, drives.at, drives.length, outputs2.at, outputs2.length);
-        if (a != b || memcmp(state.at, state2.at, state.length) || memcmp(outputs.at, outputs2.at, outputs.length)) {
+        int states = alike(state, state2), places = alike(outputs, outputs2);
+        if (a != b || !states || !places) {
             printf("call %lu: %llu and %llu, state %s, outputs %s\n", call, (unsigned long long)a, (unsigned long long)b,
-                   memcmp(state.at, state2.at, state.length) ? "differs" : "same",
-                   memcmp(outputs.at, outputs2.at, outputs.length) ? "differ" : "same");
+                   states ? "same" : "differs", places ? "same" : "differ");
             return 1;
         }
-        numbers[KRTOVALIN_NUMBER(a) < 12 ? KRTOVALIN_NUMBER(a) : 0]++;
+        numbers[KRTOVALIN_NUMBER(a) < NUMBERS ? KRTOVALIN_NUMBER(a) : 0]++;
         free(whole.at), free(image.at), free(state.at), free(drives.at), free(outputs.at), free(state2.at), free(outputs2.at);
     }
     printf("%lu calls agree; by number:", calls);
-    for (int i = 0; i < 12; i++)
+    for (int i = 0; i < NUMBERS; i++)
         printf(" %lu", numbers[i]);
     printf("\n");
     return 0;
