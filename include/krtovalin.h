@@ -4,8 +4,8 @@
  * threads or interrupt levels at once, each with its own buffers. No pointer needs any alignment. The buffers must not overlap,
  * except that image and drives, which are only read, may. A pointer whose length is 0 may be null.
  *
- * Stack, measured over all circuits of bench/cases: 23,768 bytes on x86-64, 23,792 on a 64-bit Arm, 23,492 on a
- * Cortex-M7. Allow 24 KiB.
+ * Stack, measured over all circuits of bench/cases: 23,768 bytes on x86-64, 23,728 to 24,176 on a 64-bit Arm, by what it is compiled for,
+ * 23,492 on a Cortex-M7. Allow 25 KiB.
  */
 #ifndef KRTOVALIN_H
 #define KRTOVALIN_H
