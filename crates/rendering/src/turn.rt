@@ -39,7 +39,7 @@ fn sets(length: usize, driven: usize) -> usize
     length / (4 * driven)
 }
 
-// How many bytes the drives of a block take. The most that `play` plays.
+// How many bytes the drives of a block take: as many as `play` takes at a time.
 pub fn drive_bytes(image: &[u8]) -> usize
     ensures { λ r. ⌜ (r ≡ 4 * blockSamples * drivenOf (openingOf (now (image .entry)))) × (r ≤ 61440) ⌝ }
 {
@@ -47,7 +47,7 @@ pub fn drive_bytes(image: &[u8]) -> usize
 }
 
 // Plays the sets of drives that these bytes hold, from this state, and puts the lines of the accepted
-// samples at the start of `text`. More sets than a block has are refused, as the block does.
+// samples at the start of `text`. More sets than a block has, the block refuses.
 pub fn play(image: &[u8], state: State, drives: &[u8], text: &mut [u8]) -> Turn
     requires { ⌜ 22528 ≤ length (now text) ⌝ }
     ensures { λ r. ⌜ Told (now (image .entry)) state (now (drives .entry)) (now (text .entry)) (r .number) (r .count) (r .state) (r .length) (now (text .exit)) ⌝ }
