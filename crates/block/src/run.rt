@@ -1,11 +1,12 @@
 // The samples of a block, one after the other, up to the first that is refused.
 use crate::drives;
 use circuit::board;
-use circuit::places;
 use solve::sample;
 use units::bytes;
 use units::number;
 use units::number::Number;
+ghost use mathlib.Core.Path.{_≡_};
+ghost use lib.ListN.{length};
 ghost use Rattle.circuit.specs.Board.{drivenOn, networkOn};
 ghost use Rattle.guess.specs.Proposal.{Guessable};
 ghost use Rattle.solve.specs.Sample.{Playable, Sampled};
@@ -23,13 +24,11 @@ fn begin(
     x: &[i64; 32],
     volts: &mut [i64; 16],
 )
-    requires { ⌜ Guessable (now board) (now stretches) (now x) × Driven (now board) (now drives) j ⌝ }
-    ensures { λ _. ⌜ Begun (now (board .entry)) (now (drives .entry)) j (now (volts .exit)) ⌝ }
+    requires { ⌜ Guessable (now board) (now stretches) (now x) × Driven (now board) (now drives) j × (length (now volts) ≡ 16) ⌝ }
+    ensures { λ _. ⌜ Begun (now (board .entry)) (now (drives .entry)) j (now (volts .exit)) × (length (now (volts .exit)) ≡ 16) ⌝ }
 {
-    let mut placed = places::copied(volts);
-    drives::place(drives, board::driven(board), j, &mut placed);
-    guess::propose(board, stretches, x, &mut placed);
-    *volts = placed;
+    drives::place(drives, board::driven(board), j, volts);
+    guess::propose(board, stretches, x, volts);
 }
 
 // Sample j: its voltages and the stored currents after it.
@@ -41,8 +40,8 @@ fn next(
     x: &mut [i64; 32],
     volts: &mut [i64; 16],
 ) -> Number
-    requires { ⌜ Playable (now board) (now stretches) (now x) × Driven (now board) (now drives) j ⌝ }
-    ensures { λ r. ⌜ Sampled (networkOn (now (board .entry)) (now (stretches .entry))) (driveAt (now (drives .entry)) (drivenOn (now (board .entry))) j) (now (x .entry)) (now (x .exit)) (now (volts .exit)) r ⌝ }
+    requires { ⌜ Playable (now board) (now stretches) (now x) × Driven (now board) (now drives) j × (length (now volts) ≡ 16) ⌝ }
+    ensures { λ r. ⌜ Sampled (networkOn (now (board .entry)) (now (stretches .entry))) (driveAt (now (drives .entry)) (drivenOn (now (board .entry))) j) (now (x .entry)) (now (x .exit)) (now (volts .exit)) r × (length (now (volts .exit)) ≡ 16) ⌝ }
 {
     begin(board, stretches, drives, j, x, volts);
     sample::sample(board, stretches, volts, x)
@@ -60,7 +59,7 @@ pub fn run(
     volts: &mut [i64; 16],
     outputs: &mut [u8],
 ) -> u64
-    requires { ⌜ Playable (now board) (now stretches) (now x) × Room (now board) output n (now drives) (now outputs) ⌝ }
+    requires { ⌜ Playable (now board) (now stretches) (now x) × Room (now board) output n (now drives) (now outputs) × (length (now volts) ≡ 16) ⌝ }
     ensures { λ r. ⌜ Ran (networkOn (now (board .entry)) (now (stretches .entry))) output (driveAt (now (drives .entry)) (drivenOn (now (board .entry)))) (now (x .entry)) n (now (outputs .entry)) (now (x .exit)) (now (outputs .exit)) r ⌝ }
 {
     let mut j: usize = 0;

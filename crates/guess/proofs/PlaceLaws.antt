@@ -65,10 +65,6 @@ proposed-taken board from before after ranged t =
       free = λ j a b. rw (t .taken j (omega arith) (omega arith)) (ranged j (omega arith));
     }
 
--- nothing is proposed where no node is free
-pub proposed-nothing : (board : List ℕ) (volts : List ℤ) → nodesOn board ≡ drivenOn board → Proposed board volts volts
-proposed-nothing board volts none = record { long = refl; elsewhere = λ j h. refl; free = λ j a b. absurd (omega (arith, none)) }
-
 pub in-places : (board : List ℕ) (stretches : List ℤ) → Laid board stretches → InPlaces board
 in-places board stretches laid =
     record {

@@ -9,7 +9,9 @@ use crate::whole;
 use circuit::board;
 use units::voltage::Nearest;
 use units::voltage::Voltage;
+ghost use mathlib.Core.Path.{_≡_};
 ghost use Prim.Native.Nat.{_≤_, _<_};
+ghost use lib.ListN.{length};
 ghost use Rattle.circuit.specs.Board.{nodesOn, drivenOn, Laid, Ranged, Evaluable};
 ghost use Rattle.guess.specs.Proposal.{Standing, Proposed};
 
@@ -190,7 +192,7 @@ pub fn newton(
     volts: &[i64; 16],
     guess: &mut [i64; 16],
 ) -> Ending
-    requires { ⌜ Evaluable (now board) (now stretches) (now stored) (now volts) ⌝ }
+    requires { ⌜ Evaluable (now board) (now stretches) (now stored) (now volts) × (length (now guess) ≡ 16) ⌝ }
     ensures { λ r. ⌜ Proposed (now (board .entry)) (now (guess .entry)) (now (guess .exit)) ⌝ }
 {
     let mut at = circuit::places::copied(volts);

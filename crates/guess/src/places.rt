@@ -1,7 +1,9 @@
 // Arrays of microvolts with a place for each node, ground's first.
 use circuit::board;
 use units::voltage::Voltage;
+ghost use mathlib.Core.Path.{_≡_};
 ghost use Prim.Native.Nat.{_≤_};
+ghost use lib.ListN.{length};
 ghost use Rattle.circuit.specs.Board.{nodesOn, drivenOn, Ranged};
 ghost use Rattle.guess.specs.Proposal.{Standing, Proposed};
 
@@ -23,15 +25,8 @@ pub fn seated(board: &[u64; 212], volts: &[i64; 16]) -> [i64; 16]
 
 // The free nodes of `to` placed as in `from`.
 pub fn place_free(board: &[u64; 212], from: &[i64; 16], to: &mut [i64; 16])
-    requires { ⌜ (nodesOn (now board) ≤ 15) × (drivenOn (now board) ≤ nodesOn (now board)) × Ranged (now board) (now from) ⌝ }
+    requires { ⌜ (nodesOn (now board) ≤ 15) × (drivenOn (now board) ≤ nodesOn (now board)) × Ranged (now board) (now from) × (length (now to) ≡ 16) ⌝ }
     ensures { λ _. ⌜ Proposed (now (board .entry)) (now (to .entry)) (now (to .exit)) ⌝ }
 {
-    let mut after = circuit::places::copied(to);
-    circuit::places::take(
-        from,
-        board::driven(board) + 1,
-        board::nodes(board) + 1,
-        &mut after,
-    );
-    *to = after;
+    circuit::places::take(from, board::driven(board) + 1, board::nodes(board) + 1, to);
 }

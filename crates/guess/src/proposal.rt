@@ -4,6 +4,8 @@ use crate::newton::Ending;
 use crate::places;
 use crate::slide;
 use circuit::board;
+ghost use mathlib.Core.Path.{_≡_};
+ghost use lib.ListN.{length};
 ghost use Rattle.guess.specs.Proposal.{Guessable, Proposed};
 
 // One free node slides, more go Newton's way, and with none there is nothing to propose. `volts` may hold
@@ -14,7 +16,7 @@ pub fn propose(
     stored: &[i64; 32],
     volts: &mut [i64; 16],
 ) -> Ending
-    requires { ⌜ Guessable (now board) (now stretches) (now stored) ⌝ }
+    requires { ⌜ Guessable (now board) (now stretches) (now stored) × (length (now volts) ≡ 16) ⌝ }
     ensures { λ r. ⌜ Proposed (now (board .entry)) (now (volts .entry)) (now (volts .exit)) ⌝ }
 {
     let nodes = board::nodes(board);

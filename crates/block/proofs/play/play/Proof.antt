@@ -63,6 +63,7 @@ run-requires c κs =
     let fit = if-passed (f .result) (f .ensures) (not-false _ (c .before .before .before .before .before .before .if2 .left)) in (
       playable-first (a .parts) (s .pre .0) (s .pre .1) (o .result) (t .last .1 .0) (t .ensures) (o .ensures) (a .x .now) (a .n) (a .drives .now) (a .outputs .now) legal,
       room-is (a .parts) (s .pre .0) (s .pre .1) (o .result) (t .last .1 .0) (t .ensures) (o .ensures) (a .x .now) (a .n) (a .drives .now) (a .outputs .now) fit,
+      refl,
     )
 
 same-length : tie.Need-same-length

@@ -1,3 +1,4 @@
+use mathlib.Core.Path.{_∙_}
 use borrow.Author.Needs.{needs}
 use Rattle.block.proofs.SampleLaws.{sampled-is}
 use Rattle.block.proofs.run.next.Statement.{statement}
@@ -13,7 +14,7 @@ returns : tie.Need-returns
 returns c =
     let a = c .before .before .before .before .before .before .before .args in
     let b = c .before .before .before .begin in
-    sampled-is (a .board .now) (a .stretches .now) (a .drives .now) (a .j) (b .last .1 .1 .1 .1 .1 .0) (a .x .now) (b .ensures) (c .sample .ensures .outcome)
+    (sampled-is (a .board .now) (a .stretches .now) (a .drives .now) (a .j) (b .last .1 .1 .1 .1 .1 .0) (a .x .now) (b .ensures .0) (c .sample .ensures .outcome), c .sample .ensures .long ∙ b .ensures .1)
 
 pub next-spec : {M : Type 1} → statement M
 next-spec = tie.close (tie.spec begin-requires sample-requires returns)

@@ -1,6 +1,7 @@
 use mathlib.Core.Path.{_≡_, refl, sym, _∙_, ap}
 use Prim.Native.Nat.{ℕ, _+_, _*_, _-_, _≤_, _<_}
 use native.Mathlib.Omega.{arith}
+use lib.ListN.{length}
 use mir.Syntax.{w64}
 use mir.Val.{toZ, ofZ}
 use Rattle.network.specs.Network.{reading}
@@ -16,7 +17,7 @@ use Rattle.block.proofs.run.run.Statement.{statement}
 use Rattle.block.proofs.run.run.Tie as tie
 
 abbrev Inv-loop : tie.InvT-loop
-Inv-loop board stretches output n drives x₀ volts₀ outputs₀ j₀ x volts outputs j = (j ≤ n) × Run (λ (j : ℕ). networkOn board stretches) output (driveAt drives (drivenOn board)) (stateOf x₀) outputs₀ j (stateOf x) outputs × Playable board stretches x
+Inv-loop board stretches output n drives x₀ volts₀ outputs₀ j₀ x volts outputs j = (j ≤ n) × Run (λ (j : ℕ). networkOn board stretches) output (driveAt drives (drivenOn board)) (stateOf x₀) outputs₀ j (stateOf x) outputs × Playable board stretches x × (length volts ≡ 16)
 
 abbrev μ-loop : tie.MeasureT-loop
 μ-loop board stretches output n drives x₀ volts₀ outputs₀ j₀ x volts outputs j = n - j
@@ -24,14 +25,14 @@ abbrev μ-loop : tie.MeasureT-loop
 loop-holds : tie.Need-loop-holds Inv-loop μ-loop
 loop-holds c =
     let s = c .before .before in
-    (omega arith, start, s .pre .0)
+    (omega arith, start, s .pre .0, s .pre .2)
 
 next-requires : tie.Need-next-requires Inv-loop μ-loop
 next-requires c κs =
     let l = c .before .before .before .loop in
     let s = c .before .before .before .before .before .before in
     let a = s .args in
-    (l .inv .2, driven-there (a .board .now) (a .drives .now) (a .outputs .now) (a .output) (a .n) (l .j) (s .pre .1) (c .before .before .loop-test .taken))
+    (l .inv .2, driven-there (a .board .now) (a .drives .now) (a .outputs .now) (a .output) (a .n) (l .j) (s .pre .1) (c .before .before .loop-test .taken), l .inv .3)
 
 value-requires : tie.Need-value-requires Inv-loop μ-loop
 value-requires c κs = search needs
@@ -54,7 +55,7 @@ same-length c = run-length (c .before .before .before .before .before .before .l
 
 returns : tie.Need-returns Inv-loop μ-loop
 returns c =
-    let q = refused-is (c .before .before .next .ensures) (some c) in
+    let q = refused-is (c .before .before .next .ensures .0) (some c) in
     rw (c .before .value .ensures) (run-short (c .before .before .before .before .before .before .loop .inv .1) (c .before .before .before .before .before .loop-test .taken) q)
 
 mul-put-i32 : tie.Need-mul-put-i32 Inv-loop μ-loop
@@ -85,8 +86,8 @@ loop-again c =
     let v = n .next .last .1 .1 .1 .1 .1 .0 in
     let z = reading v (n .before .before .before .before .before .before .before .args .output) in
     let f : toZ w64 (ofZ w64 z) ≡ z = search needs in
-    let q = passed-is (n .next .ensures) (none e) in
-    (omega (arith, n .before .before .before .loop-test .taken), rw ((rw f at (c .before .before .put-i32 .ensures))) (run-more (l .inv .1) q), playable-on (l .inv .2) q)
+    let q = passed-is (n .next .ensures .0) (none e) in
+    (omega (arith, n .before .before .before .loop-test .taken), rw ((rw f at (c .before .before .put-i32 .ensures))) (run-more (l .inv .1) q), playable-on (l .inv .2) q, n .next .ensures .1)
 
 same-length-2 : tie.Need-same-length-2 Inv-loop μ-loop
 same-length-2 c = run-length (c .before .loop .inv .1)

@@ -3,9 +3,6 @@ use borrow.Author.Needs.{needs}
 use Rattle.guess.proofs.places.place_free.Statement.{statement}
 use Rattle.guess.proofs.places.place_free.Tie as tie
 
-copied-requires : tie.Need-copied-requires
-copied-requires c κs = search needs
-
 driven-requires : tie.Need-driven-requires
 driven-requires c κs = search needs
 
@@ -23,17 +20,8 @@ take-requires c κs = search needs
 
 returns : tie.Need-returns
 returns c =
-    let s = c .before .before .before .before .before .before in
-    proposed-taken (s .args .board .now) (s .args .from .now) (s .args .to .now) _ (s .pre .2) (rw (c .before .before .before .driven .ensures, c .before .before .nodes .ensures, c .before .before .before .before .copied .ensures .0) at (c .take .ensures))
+    let s = c .before .before .before .before in
+    proposed-taken (s .args .board .now) (s .args .from .now) (s .args .to .now) _ (s .pre .2) (rw (c .before .before .before .driven .ensures, c .before .before .nodes .ensures) at (c .take .ensures))
 
 pub place-free-spec : {M : Type 1} → statement M
-place-free-spec =
-    tie.close
-    (tie.spec
-    copied-requires
-    driven-requires
-    add-take
-    nodes-requires
-    add-take-2
-    take-requires
-    returns)
+place-free-spec = tie.close (tie.spec driven-requires add-take nodes-requires add-take-2 take-requires returns)
