@@ -4,14 +4,16 @@
  * threads or interrupt levels at once, each with its own buffers. No pointer needs any alignment. The buffers must not overlap,
  * except that image and drives, which are only read, may. A pointer whose length is 0 may be null.
  *
- * How far to trust an output. It is proved for one sample, of the network that the image means, with the drives and the stored currents
- * of that sample: the voltages are the highest whole microvolts at which no free node's net current is above zero, never above any
- * other solution, and below it by less than B microvolts, which the program `bound` computes from an image. No bound is promised on the
- * drift over a run, in which stored currents differ too. And the network is not the circuit on a bench: every node leaks 1 nS to
+ * How far to trust an output. It is proved for one accepted sample, of the network that the image means, with the drives and the stored
+ * currents of that sample: the voltages are the highest whole microvolts at which no free node's net current is above zero, never above
+ * any other solution, and below it by less than B microvolts, which the program `bound` computes from an image; B is small only where
+ * every free node is well held by ground and driven nodes. No bound is promised on the drift over a run, in which stored currents
+ * differ too. And the network is not the circuit on a bench: every node leaks 1 nS to
  * ground, conductances are whole nanosiemens, curves are straight between breakpoints, and the trapezoidal rule answers an edge with
  * voltages that zigzag from sample to sample. README.md has examples.
  *
- * Blocks can be cut anywhere: a block of n samples and then one of m, with the state that the first left, are one of n + m.
+ * Blocks can be cut anywhere: an accepted block of n samples and then one of m, with the state that the first left, answer and leave
+ * together what one of n + m does, where that is not refused by 8.
  *
  * Stack, measured over all circuits of bench/cases: 23,768 bytes on x86-64, 23,728 to 24,176 on a 64-bit Arm, by what it is compiled for,
  * 23,492 on a Cortex-M7. Allow 25 KiB.

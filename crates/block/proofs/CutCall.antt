@@ -118,6 +118,9 @@ holds : (bytes : List ℕ) (c : ℕ) (y : State) → After (stateIn bytes) c y �
 holds bytes zero y a = sym (a .none refl)
 holds bytes (suc c) y a = let l = a .some (omega arith) in read-back bytes (l .0) y (state-long bytes (l .0) (l .1)) (l .2)
 
+pub state-held : {image bytes : List ℕ} {n : ℕ} {drives outputs : List ℕ} {answer : ℕ} {bytes′ outputs′ : List ℕ} (called : Called image bytes n drives outputs answer bytes′ outputs′) → stateIn bytes′ ≡ called .after
+state-held {bytes = bytes} called = ap stateIn (called .kept) ∙ holds bytes (called .count) (called .after) (after (called .plays))
+
 -- the bytes after two calls are those after one
 twice : (bytes : List ℕ) (c₁ c₂ : ℕ) (y z : State) → After (stateIn bytes) c₁ y → After y c₂ z → bytesAfter (bytesAfter bytes y c₁) z c₂ ≡ bytesAfter bytes z (c₁ + c₂)
 twice bytes zero c₂ y z a b = rw (zero-add c₂)
@@ -136,11 +139,10 @@ module _ (image bytes : List ℕ) (n m : ℕ) (d₁ d₂ o₁ o₂ : List ℕ) (
 
   -- where it accepts, one call for all answers with the sum of both answers, and leaves what the second leaves
   pub call-goes-on : {a₁ a₂ : ℕ} {bytes₁ bytes₂ p₁ p₂ : List ℕ} → numberIn a₁ ≡ 0 → Called image bytes n d₁ o₁ a₁ bytes₁ p₁ → Called image bytes₁ m d₂ o₂ a₂ bytes₂ p₂ → Uncut (a₁ + a₂) bytes₂ (p₁ ++ p₂)
-  call-goes-on {bytes₁ = bytes₁} {p₂ = p₂} done-first c e =
+  call-goes-on {p₂ = p₂} done-first c e =
       let none : c .number ≡ 0 = sym (number-told c) ∙ done-first in
       let first = after (c .plays) in
-      let read : stateIn bytes₁ ≡ c .after = ap stateIn (c .kept) ∙ holds bytes (c .count) (c .after) first in
-      let plays = subst (λ (y : State). Plays image y m d₂ o₂ (e .number) (e .count) (e .after) p₂) read (e .plays) in
+      let plays = subst (λ (y : State). Plays image y m d₂ o₂ (e .number) (e .count) (e .after) p₂) (state-held c) (e .plays) in
       record {
         number = e .number;
         count = c .count + e .count;

@@ -9,19 +9,21 @@ use Prim.Native.Nat.{ℕ, _+_, _*_, _/_, _%_, _≤_, _<_}
 use native.Mathlib.Omega.{arith}
 use native.Mathlib.Nat.{mul-le-mul-right}
 use lib.IntN.{ℤ}
-use lib.ListN.{getD}
+use lib.ListN.{length, getD}
 use mir.Syntax.{w64}
 use mir.Val.{ofZ}
 use Rattle.units.specs.Number.{numberOf}
 use Rattle.units.proofs.LittleEndian.{written-else}
 use Rattle.units.proofs.Numbers.{number-small}
 use Rattle.network.specs.Network.{Network}
-use Rattle.network.specs.Sample.{Outcome, accepted, driveRefused, railRefused, storedRefused, answerOf}
+use Rattle.network.specs.Sample.{answerOf}
 use Rattle.image.proofs.Opening.{refused-early}
 use Rattle.block.specs.Block.{LengthsFit, Begins, Run, start, sample, state-refused, lengths-refused, sample-refused, done, Plays, image-refused, conductance-refused, plays-on}
 use Rattle.block.specs.Call.{stateIn, bytesAfter, Called}
 use Rattle.block.specs.Host.{numberIn, countIn}
 use Rattle.block.specs.declared.call.State.{State}
+use Rattle.block.proofs.HostLaws.{late}
+use Rattle.block.proofs.SampleLaws.{run-length}
 
 -- ---- a block
 
@@ -36,16 +38,10 @@ record Kept (image : List ℕ) (x : State) (n : ℕ) (drives outputs : List ℕ)
   few : c ≤ n
   small : c ≤ 4096
   complete : k ≡ 0 → c ≡ n
+  long : length o ≡ length outputs
   else : (i : ℕ) → 4 * c ≤ i → getD o i 0 ≡ getD outputs i 0
   early : 1 ≤ k → k ≤ 8 → (c ≡ 0) × (o ≡ outputs)
   midway : 9 ≤ k → (c < n) × Plays image x c drives outputs 0 c y o
-
--- the numbers of refused samples are 9 to 11
-late : (r : Outcome) → 0 < numberOf (answerOf r) → numberOf (answerOf r) ≤ 8 → ⊥
-late (accepted v y) some early = omega (arith, some)
-late driveRefused some early = omega (arith, early)
-late railRefused some early = omega (arith, early)
-late storedRefused some early = omega (arith, early)
 
 -- fewer samples fit too
 fewer : {driven n drives outputs : ℕ} (j : ℕ) → j ≤ n → LengthsFit driven n drives outputs → LengthsFit driven j drives outputs
@@ -54,7 +50,7 @@ fewer {driven = driven} j h f = record { few = omega (arith, f .few); driven-eno
 module _ (image : List ℕ) (x : State) (n : ℕ) (drives outputs : List ℕ) where
   -- refused before any sample
   nothing-done : (k : ℕ) → 1 ≤ k → k ≤ 8 → Kept image x n drives outputs k 0 x outputs
-  nothing-done k some early = record { numbered = omega arith; few = omega arith; small = omega arith; complete = λ e. absurd (omega arith); else = λ i h. refl; early = λ a b. (refl, refl); midway = λ h. absurd (omega arith) }
+  nothing-done k some early = record { numbered = omega arith; few = omega arith; small = omega arith; complete = λ e. absurd (omega arith); long = refl; else = λ i h. refl; early = λ a b. (refl, refl); midway = λ h. absurd (omega arith) }
 
   plays-kept : {k c : ℕ} {y : State} {o : List ℕ} → Plays image x n drives outputs k c y o → Kept image x n drives outputs k c y o
   plays-kept (image-refused {k = k} e) = let early = refused-early image k e in nothing-done (numberOf k) (early .0) (omega (arith, early .1))
@@ -66,8 +62,9 @@ module _ (image : List ℕ) (x : State) (n : ℕ) (drives outputs : List ℕ) wh
     few = omega arith;
     small = omega (arith, b .fit .few);
     complete = λ none. absurd (omega (arith, f .some));
+    long = run-length (f .run);
     else = run-else (f .run);
-    early = λ some early. absurd (late r (f .some) early);
+    early = λ some early. absurd (omega (arith, early, late r (f .some)));
     midway = λ late. (h, plays-on e t (done (record { legal = b .legal; fit = fewer j (omega arith) (b .fit) }) (f .run)));
   }
   plays-kept (plays-on e t (done b run)) = record {
@@ -75,6 +72,7 @@ module _ (image : List ℕ) (x : State) (n : ℕ) (drives outputs : List ℕ) wh
     few = omega arith;
     small = b .fit .few;
     complete = λ none. refl;
+    long = run-length run;
     else = run-else run;
     early = λ some early. absurd (omega arith);
     midway = λ late. absurd (omega arith);
@@ -110,5 +108,5 @@ module _ {image bytes : List ℕ} {n : ℕ} {drives outputs : List ℕ} {answer 
       rw count-told (m .0, record { number = 0; count = called .count; after = called .after; plays = m .1; packed = omega arith; kept = called .kept })
 
   -- "every later place untouched", whatever the number
-  pub later-untouched : (i : ℕ) → 4 * countIn answer ≤ i → getD outputs′ i 0 ≡ getD outputs i 0
-  later-untouched = rw count-told (kept .else)
+  pub later-untouched : (length outputs′ ≡ length outputs) × ((i : ℕ) → 4 * countIn answer ≤ i → getD outputs′ i 0 ≡ getD outputs i 0)
+  later-untouched = (kept .long, rw count-told (kept .else))

@@ -18,7 +18,7 @@ use Rattle.network.proofs.Outcome.{not-rail}
 use Rattle.block.specs.Call.{Called}
 use Rattle.block.specs.Host.{numberIn, countIn, outputAt, SampleAt, circuitOf, storedBefore, drivesOf}
 use Rattle.block.proofs.Demand1.{number-told, count-told}
-use Rattle.block.proofs.HostLaws.{Came, came, accepts, refused-by, refuses, reached}
+use Rattle.block.proofs.HostLaws.{reaches, Came, came, accepts, refused-by, refuses, reached}
 use Rattle.block.proofs.OneOutcome.{called-once}
 use Rattle.block.proofs.PlayLaws.{parts-limits}
 
@@ -38,6 +38,10 @@ pub record Highest (N : Network) (x d : ℕ → ℤ) (output : ℕ) (heard : ℤ
   pub below : BelowTop N voltages
   pub is : heard ≡ voltages output
 
+-- unless the call is refused by 1 to 8, every sample before the count is reached, and the one that is refused
+pub every-sample : {image bytes : List ℕ} {n : ℕ} {drives outputs : List ℕ} {answer : ℕ} {bytes′ outputs′ : List ℕ} → Called image bytes n drives outputs answer bytes′ outputs′ → (numberIn answer ≡ 0) ⊎ (9 ≤ numberIn answer) → (j : ℕ) → j ≤ countIn answer → j < n → SampleAt image bytes n drives outputs j
+every-sample called said j h there = reaches (called .plays) (rw (number-told called) at said) j (rw (count-told called) at h) there
+
 module _ {image bytes : List ℕ} {n : ℕ} {drives outputs : List ℕ} {answer : ℕ} {bytes′ outputs′ : List ℕ} (called : Called image bytes n drives outputs answer bytes′ outputs′) {j : ℕ} (s : SampleAt image bytes n drives outputs j) where
   abbrev N : Network
   N = circuitOf s
@@ -51,8 +55,8 @@ module _ {image bytes : List ℕ} {n : ℕ} {drives outputs : List ℕ} {answer 
   result : Came s (called .number) (called .count) outputs′
   result = came s (called .plays)
 
-  -- a sample that is reached is accepted or refused
-  pub accepted-or-refused : (j < countIn answer) ⊎ ((countIn answer ≡ j) × (0 < numberIn answer))
+  -- a sample that is reached is accepted or refused, by 9, 10 or 11 (`Demand1.answered`)
+  pub accepted-or-refused : (j < countIn answer) ⊎ ((countIn answer ≡ j) × (9 ≤ numberIn answer))
   accepted-or-refused = rw (number-told called, count-told called) (reached s result)
 
   -- "the free nodes take the highest whole-microvolt voltages at which no free node's net outgoing current is above zero"

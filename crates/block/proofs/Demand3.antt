@@ -9,6 +9,7 @@ use mathlib.Core.Path.{_≡_}
 use mathlib.Core.List.{List}
 use Prim.Native.Nat.{ℕ, _%_, _≤_, _<_}
 use lib.IntN.{ℤ}
+use Rattle.network.specs.Sample.{Accepted}
 use Rattle.network.specs.Bound.{Balances, Close}
 use Rattle.network.proofs.Demand3.{demand-3}
 use Rattle.block.specs.Call.{Called}
@@ -20,6 +21,8 @@ use Rattle.block.proofs.PlayLaws.{parts-limits}
 -- the sample's voltages, one of which is its output, and how close any others are to them
 pub record Trusted {image bytes : List ℕ} {n : ℕ} {drives outputs : List ℕ} {j : ℕ} (s : SampleAt image bytes n drives outputs j) (heard : ℤ) : Type 0 where
   pub voltages : ℕ → ℤ
+  pub after : ℕ → ℤ
+  pub accepts : Accepted (circuitOf s) (storedBefore s) (drivesOf s) voltages after
   pub is : heard ≡ voltages (s .parts .output)
   pub close : (k e : ℕ) (w : ℕ → ℤ) → 1 ≤ k → Balances k e (circuitOf s) (storedBefore s) (drivesOf s) w → Close (circuitOf s) voltages k e w
 
@@ -29,6 +32,8 @@ demand-3-of-a-call {image = image} called s h =
     let limits = parts-limits image (s .parts) (s .opens) (s .conducts) in
     record {
       voltages = a .voltages;
+      after = a .after;
+      accepts = a .accepts;
       is = a .heard;
       close = λ k e w grid b. demand-3 (circuitOf s) limits (storedBefore s) (drivesOf s) (a .voltages) (a .after) (a .accepts) k grid e w b;
     }

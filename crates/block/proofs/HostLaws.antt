@@ -15,11 +15,12 @@ use Rattle.units.specs.Voltage.{InRange}
 use Rattle.units.proofs.Integers.{decideN}
 use Rattle.units.proofs.LittleEndian.{written-else, signed-read}
 use Rattle.network.specs.Network.{Network, Wired, reading}
-use Rattle.network.specs.Sample.{Outcome, accepted, answerOf, Accepted, Gives}
+use Rattle.network.specs.Sample.{Outcome, accepted, driveRefused, railRefused, storedRefused, answerOf, Accepted, Gives}
 use Rattle.network.proofs.Ranges.{legal-in-range}
 use Rattle.image.specs.Meaning.{networkAt}
 use Rattle.image.specs.Setting.{plain}
 use Rattle.image.specs.declared.parts.Parts.{Parts}
+use Rattle.image.proofs.Opening.{refused-early}
 use Rattle.block.specs.Block.{driveAt, Run, start, sample, RunOf, Refuses, PlaysOn, state-refused, lengths-refused, sample-refused, done, Plays, image-refused, conductance-refused, plays-on}
 use Rattle.block.specs.Call.{stateIn}
 use Rattle.block.specs.Host.{outputAt, SampleAt, circuitOf, storedBefore, drivesOf}
@@ -27,6 +28,13 @@ use Rattle.block.specs.declared.call.State.{State}
 use Rattle.block.proofs.OneOutcome.{run-once, not-refused, refused-once, parts-once, clash, torn}
 use Rattle.block.proofs.PlayLaws.{parts-limits, parts-heard}
 use Rattle.block.proofs.SampleLaws.{run-length}
+
+-- the numbers of refused samples are 9 to 11
+pub late : (r : Outcome) → 0 < numberOf (answerOf r) → 9 ≤ numberOf (answerOf r)
+late (accepted v y) some = absurd (omega (arith, some))
+late driveRefused some = omega arith
+late railRefused some = omega arith
+late storedRefused some = omega arith
 
 -- ---- an output is the voltage of its sample
 
@@ -81,6 +89,24 @@ heard-at {N = N} {output = output} {d = d} {x = x} {outputs = outputs} j there (
       heard = ap (toZ w32) (read-alike 4 (written 4 p (4 * i) (ofZ w64 (v output))) p (4 * j) (λ k b. written-else 4 p (4 * i) (ofZ w64 (v output)) k (inl (omega arith)))) ∙ q .heard;
     }
 
+-- ---- every sample up to the count, and the one that is refused, is reached
+
+-- a run up to some sample has gone through every one before it
+up-to : {N : ℕ → Network} {output : ℕ} {d : ℕ → ℕ → ℤ} {x : State} {outputs : List ℕ} {m : ℕ} {y : State} {o : List ℕ} (j : ℕ) → j ≤ m → Run N output d x outputs m y o → (z : State) × (p : List ℕ) × Run N output d x outputs j z p
+up-to {x = x} {outputs = outputs} j h start = let e : j ≡ 0 = omega arith in rw e (x, outputs, start)
+up-to {output = output} j h (sample {j = i} {z = z} {o = p} v r g l k) = ⊎-elim
+    (λ (m : j ≤ i). up-to j m r)
+    (λ (m : i < j). let e : j ≡ suc i = omega arith in rw e (z, written 4 p (4 * i) (ofZ w64 (v output)), sample v r g l k)) (decideN j i)
+
+module _ {image bytes : List ℕ} {n : ℕ} {drives outputs : List ℕ} where
+  pub reaches : {k c : ℕ} {y : State} {o : List ℕ} → Plays image (stateIn bytes) n drives outputs k c y o → (k ≡ 0) ⊎ (9 ≤ k) → (j : ℕ) → j ≤ c → j < n → SampleAt image bytes n drives outputs j
+  reaches (image-refused {k = k} e) said j h there = let early = refused-early image k e in absurd (⊎-elim (λ (z : numberOf k ≡ 0). omega (arith, z, early .0)) (λ (z : 9 ≤ numberOf k). omega (arith, z, early .1)) said)
+  reaches (conductance-refused e f) said j h there = absurd (⊎-elim (λ (z : _≡_ {A = ℕ} 6 0). omega (arith, z)) (λ (z : 9 ≤ 6). omega (arith, z)) said)
+  reaches (plays-on e t (state-refused not)) said j h there = absurd (⊎-elim (λ (z : _≡_ {A = ℕ} 7 0). omega (arith, z)) (λ (z : 9 ≤ 7). omega (arith, z)) said)
+  reaches (plays-on e t (lengths-refused legal not)) said j h there = absurd (⊎-elim (λ (z : _≡_ {A = ℕ} 8 0). omega (arith, z)) (λ (z : 9 ≤ 8). omega (arith, z)) said)
+  reaches (plays-on {parts = parts} e t (sample-refused b m f)) said j h there = let u = up-to j h (f .run) in record { parts = parts; opens = e; conducts = t; begins = b; there = there; state = u .0; written = u .1; run = u .2 }
+  reaches (plays-on {parts = parts} e t (done b run)) said j h there = let u = up-to j h run in record { parts = parts; opens = e; conducts = t; begins = b; there = there; state = u .0; written = u .1; run = u .2 }
+
 -- ---- of a call, where sample j is reached
 
 module _ {image bytes : List ℕ} {n : ℕ} {drives outputs : List ℕ} {j : ℕ} (s : SampleAt image bytes n drives outputs j) where
@@ -113,7 +139,7 @@ module _ {image bytes : List ℕ} {n : ℕ} {drives outputs : List ℕ} {j : ℕ
   came (plays-on {k = k} {count = c} {y = y} {o = o} e t p) = on-came (subst (λ (w : Parts). PlaysOn w (stateIn bytes) n drives outputs k c y o) (parts-once image (s .opens) e) p)
 
   -- the state that it is played from is the only one
-  same-state : {y : State} {o : List ℕ} → RunOf (s .parts) drives (stateIn bytes) outputs j y o → y ≡ s .state
+  pub same-state : {y : State} {o : List ℕ} → RunOf (s .parts) drives (stateIn bytes) outputs j y o → y ≡ s .state
   same-state run = run-once N (s .parts .output) d (stateIn bytes) outputs wired there run (s .run) .0
 
   -- accepted: its voltages are heard in its place
@@ -147,9 +173,9 @@ module _ {image bytes : List ℕ} {n : ℕ} {drives outputs : List ℕ} {j : ℕ
   refuses (whole run) r g some = absurd (not-refused N (s .parts .output) d (stateIn bytes) outputs wired there r run (s .there) (s .run) g some)
 
   -- accepted or refused
-  pub reached : {k c : ℕ} {o : List ℕ} → Came k c o → (j < c) ⊎ ((c ≡ j) × (0 < k))
+  pub reached : {k c : ℕ} {o : List ℕ} → Came k c o → (j < c) ⊎ ((c ≡ j) × (9 ≤ k))
   reached (short {i = i} r h f) = ⊎-elim
       (λ (a : j < i). inl a)
-      (λ (a : i ≤ j). ⊎-elim (λ (b : j ≤ i). inr (omega arith, f .some)) (λ (b : i < j). absurd (not-refused N (s .parts .output) d (stateIn bytes) outputs wired there r (s .run) b (f .run) (f .gives) (f .some))) (decideN j i))
+      (λ (a : i ≤ j). ⊎-elim (λ (b : j ≤ i). inr (omega arith, late r (f .some))) (λ (b : i < j). absurd (not-refused N (s .parts .output) d (stateIn bytes) outputs wired there r (s .run) b (f .run) (f .gives) (f .some))) (decideN j i))
       (⊎-elim (λ (a : i ≤ j). inr a) (λ (a : j < i). inl a) (decideN i j))
   reached (whole run) = inl (s .there)

@@ -3,17 +3,24 @@
 // there to be read: what the lines are is promised by `rendering`.
 use block::State;
 use libc::STDOUT_FILENO;
-use rendering::SAMPLES;
 use rendering::Turn;
 ghost use Prim.Native.Nat.{_≤_};
 
 // A proved loop has to end. No file has so many samples.
 const ENOUGH: u64 = 4611686018427387904;
 
-// Document 01's number, 0 where every sample was accepted, and how many were, over all blocks.
+// What came of a block, and whether its lines were written.
+struct Step {
+    turn: Turn,
+    written: bool,
+}
+
+// Document 01's number, 0 where every sample was accepted, how many were, over all blocks, and whether
+// all lines were written.
 struct Finish {
     number: u64,
     count: u64,
+    written: bool,
 }
 
 // Opens the file that argument i names. A descriptor below 0 is read as an empty file.
@@ -25,8 +32,8 @@ fn open(i: usize) -> i32 {
 
 // Reads a block's drives, plays them from this state, and writes the lines. A file that ends, fails
 // or isn't open gives fewer than a block's.
-fn next(image: &[u8], state: State, drives: i32) -> Turn
-    ensures { λ r. ⌜ r .count ≤ 1024 ⌝ }
+fn next(image: &[u8], state: State, drives: i32) -> Step
+    ensures { λ r. ⌜ r .turn .count ≤ 1024 ⌝ }
 {
     let room = rendering::drive_bytes(image);
     let mut space = io::large_buffer();
@@ -34,21 +41,24 @@ fn next(image: &[u8], state: State, drives: i32) -> Turn
     let mut text = io::large_buffer();
     let turn = rendering::play(image, state, &space[..length], &mut text);
     let end = turn.length;
-    io::write_all(STDOUT_FILENO, &text[..end]);
-    turn
+    let written = io::write_all(STDOUT_FILENO, &text[..end]);
+    Step { turn, written }
 }
 
-// Block after block from a fresh state, up to one that is short or refused.
+// Block after block from a fresh state, up to one that is short, refused or not written.
 fn blocks(image: &[u8], drives: i32) -> Finish {
     let mut state = State { currents: [0; 32] };
     let mut total: u64 = 0;
     while total < ENOUGH {
-        let turn = next(image, state, drives);
+        let step = next(image, state, drives);
+        let written = step.written;
+        let turn = step.turn;
         total += turn.count;
-        if turn.count < SAMPLES {
+        if !rendering::is_whole(turn.count) || !written {
             return Finish {
                 number: turn.number,
                 count: total,
+                written,
             };
         }
         state = turn.state;
@@ -56,6 +66,7 @@ fn blocks(image: &[u8], drives: i32) -> Finish {
     Finish {
         number: 0,
         count: total,
+        written: true,
     }
 }
 
@@ -69,6 +80,10 @@ fn render(image: usize, drives: usize) {
     let driving = open(drives);
     let finish = blocks(&bytes[..n], driving);
     libc::close(driving);
+    // lines that are missing are not followed by others
+    if !finish.written {
+        return;
+    }
     let mut text = [0u8; 56];
     let end = rendering::put_ending(&mut text, finish.number, finish.count);
     io::write_all(STDOUT_FILENO, &text[..end]);

@@ -5,7 +5,7 @@ mod turn;
 
 pub use ending::put_ending;
 pub use lines::put_lines;
-pub use turn::SAMPLES;
 pub use turn::Turn;
 pub use turn::drive_bytes;
+pub use turn::is_whole;
 pub use turn::play;

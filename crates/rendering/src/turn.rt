@@ -3,12 +3,10 @@ use crate::lines;
 use block::State;
 ghost use mathlib.Core.Path.{_≡_};
 ghost use Prim.Native.Nat.{_*_, _≤_};
+ghost use lib.Dec.{leb};
 ghost use lib.ListN.{length};
 ghost use Rattle.image.specs.Format.{openingOf};
 ghost use Rattle.rendering.specs.Rendering.{blockSamples, drivenOf, setsIn, Told};
-
-// How many samples a block has.
-pub const SAMPLES: u64 = 1024;
 
 // What came of a block: document 01's number, how many samples were accepted, where their lines end,
 // and the state after them.
@@ -37,6 +35,13 @@ fn sets(length: usize, driven: usize) -> usize
         return 0;
     }
     length / (4 * driven)
+}
+
+// Whether a block of so many accepted samples is whole, so that another may follow it.
+pub fn is_whole(count: u64) -> bool
+    ensures { λ r. ⌜ r ≡ leb blockSamples count ⌝ }
+{
+    1024 <= count
 }
 
 // How many bytes the drives of a block take: as many as `play` takes at a time.

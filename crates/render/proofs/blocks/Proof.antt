@@ -1,3 +1,6 @@
+use mathlib.Core.Path.{sym, _∙_}
+use native.Mathlib.Omega.{arith}
+use borrow.Author.Tests.{leb-true, not-false}
 use Prim.Native.Nat.{_+_, _-_, _^_, _≤_}
 use borrow.Author.Needs.{needs}
 use Rattle.render.proofs.blocks.Statement.{statement}
@@ -18,11 +21,16 @@ next-requires c κs = search needs
 add-total : tie.Need-add-total Inv-loop μ-loop
 add-total c = search needs
 
+is-whole-requires : tie.Need-is-whole-requires Inv-loop μ-loop
+is-whole-requires c κs = search needs
+
 returns : tie.Need-returns Inv-loop μ-loop
 returns c = search needs
 
 loop-less : tie.Need-loop-less Inv-loop μ-loop
-loop-less c = search needs
+loop-less c =
+    let whole : 1024 ≤ c .before .before .before .before .before .before .next .result .turn .count = leb-true 1024 _ (sym (c .before .before .before .is-whole .ensures) ∙ not-false _ (c .before .before .if1 .left)) in
+    omega (arith, whole)
 
 loop-again : tie.Need-loop-again Inv-loop μ-loop
 loop-again c = search needs
@@ -39,6 +47,7 @@ blocks-spec =
     loop-holds
     next-requires
     add-total
+    is-whole-requires
     returns
     loop-less
     loop-again

@@ -54,6 +54,9 @@ write-all-requires c κs = search needs
 returns : tie.Need-returns
 returns c = search needs
 
+returns-2 : tie.Need-returns-2
+returns-2 c = search needs
+
 pub render-spec : {M : Type 1} → statement M
 render-spec =
     tie.close
@@ -68,9 +71,10 @@ render-spec =
     slice-aggregate-blocks
     blocks-requires
     close-requires-2
+    returns
     slice-aggregate-put-ending
     put-ending-requires
     array-share-prefix-text
     slice-aggregate-write-all
     write-all-requires
-    returns)
+    returns-2)
