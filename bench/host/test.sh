@@ -22,15 +22,19 @@ python3 bench/cases/cases.py check target/bench/krtovalin
 
 cc -O2 -Wall -Wextra -Iinclude bench/host/compare.c "$block" $second -lm -o target/bench/compare
 target/bench/compare "$calls" crates/render/data/*.image
-sed 's/^\(define .*\) #\([0-9]*\) {$/\1 sanitize_address #\2 {/' target/bench/block.ll >target/bench/watched.ll
-bench/native/object.sh target/bench/watched.ll target/bench/watched.o -fsanitize=address
-nm -u target/bench/watched.o | grep -q __asan_report_load || {
-    echo "nothing of the block is watched"
-    exit 1
-}
-cc -O2 -g -fsanitize=address -Wall -Wextra -Iinclude bench/host/compare.c target/bench/watched.o $second -lm -o target/bench/watched
-# the block allocates nothing, and the search for leaks takes longer than thousands of calls
-ASAN_OPTIONS=detect_leaks=0 target/bench/watched "$calls" crates/render/data/*.image
+if echo 'int main(void) { return 0; }' | cc -fsanitize=address -x c - -o target/bench/probe 2>/dev/null && target/bench/probe; then
+    sed 's/^\(define .*\) #\([0-9]*\) {$/\1 sanitize_address #\2 {/' target/bench/block.ll >target/bench/watched.ll
+    bench/native/object.sh target/bench/watched.ll target/bench/watched.o -fsanitize=address
+    nm -u target/bench/watched.o | grep -q __asan_report_load || {
+        echo "nothing of the block is watched"
+        exit 1
+    }
+    cc -O2 -g -fsanitize=address -Wall -Wextra -Iinclude bench/host/compare.c target/bench/watched.o $second -lm -o target/bench/watched
+    # the block allocates nothing, and the search for leaks takes longer than thousands of calls
+    ASAN_OPTIONS=detect_leaks=0 target/bench/watched "$calls" crates/render/data/*.image
+else
+    echo "AddressSanitizer is left out: no program runs with it here"
+fi
 
 # An example writes the same with the second program's block in place of the proved one.
 for example in clipper refusal; do
