@@ -4,16 +4,16 @@ use mathlib.Core.List.{List}
 use mathlib.Core.Logic.{_⊎_, inl, inr, ⊎-elim}
 use Prim.Native.Nat.{ℕ, zero, suc, _+_, _*_, _^_, _≤_, _<_}
 use native.Mathlib.Omega.{arith}
-use lib.IntN.{ℤ, pos, negsuc, natAbs}
+use lib.IntN.{ℤ}
 use lib.ListN.{length, getD}
-use lib.Signed.{mag}
 use mir.Syntax.{w32, w64}
-use mir.Val.{SFits, toZ, ofZ}
+use mir.Val.{toZ, ofZ}
 use Rattle.units.specs.Bytes.{littleEndian, written}
 use Rattle.units.specs.Number.{numberOf}
-use Rattle.units.specs.Voltage.{InRange}
+use Rattle.units.specs.Voltage.{voltageLimit}
 use Rattle.units.proofs.Integers.{decideN}
 use Rattle.units.proofs.LittleEndian.{written-else, signed-read}
+use Rattle.units.proofs.Machine.{fits-half}
 use Rattle.network.specs.Network.{Network, Wired, reading}
 use Rattle.network.specs.Sample.{Outcome, accepted, driveRefused, railRefused, storedRefused, answerOf, Accepted, Gives}
 use Rattle.network.proofs.Ranges.{legal-in-range}
@@ -43,14 +43,6 @@ unfolding littleEndian
 read-alike zero s t at same = refl
 read-alike (suc n) s t at same = rw (same at (omega arith), read-alike n s t (at + 1) (λ k h. same k (omega arith)))
 
--- a voltage fits four bytes
-fits-four : (z : ℤ) → InRange z → SFits w32 z
-fits-four z h = record { sfits = omega (arith, h, size z) }
-  where
-    size : (z : ℤ) → mag z ≤ natAbs z
-    size (pos n) = omega arith
-    size (negsuc n) = omega arith
-
 -- sample j of a run, and its output in the bytes o
 pub record HeardAt (N : ℕ → Network) (output : ℕ) (d : ℕ → ℕ → ℤ) (x : State) (outputs : List ℕ) (j : ℕ) (o : List ℕ) : Type 0 where
   pub before : State
@@ -75,7 +67,7 @@ heard-at {N = N} {output = output} {d = d} {x = x} {outputs = outputs} j there (
       after = z;
       run = r;
       accepts = g;
-      heard = signed-read w32 32 4 refl refl p (4 * i) (v output) (fits-four (v output) (legal-in-range (N i) (d i) v (g .answer .legal) (g .drives) output (there i))) (omega (arith, room, run-length r));
+      heard = signed-read w32 32 4 refl refl p (4 * i) (v output) (fits-half (v output) voltageLimit (legal-in-range (N i) (d i) v (g .answer .legal) (g .drives) output (there i)) (omega arith)) (omega (arith, room, run-length r));
     }
 
     earlier : j < i → HeardAt N output d x outputs j p → HeardAt N output d x outputs j (written 4 p (4 * i) (ofZ w64 (v output)))

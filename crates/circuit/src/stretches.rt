@@ -33,17 +33,11 @@ pub fn at_zero(stretches: &[i64; 408], row: usize) -> i64
     stretches[3 * row + 2]
 }
 
-// A curve's own numbers, as wide as the table's.
+// A slope of the curve's own, as wide as the table's.
 fn wide(x: u32) -> u64
     ensures { λ r. ⌜ (r ≡ x) × (r < 2 ^ 32) ⌝ }
 {
     x as u64
-}
-
-fn wide_signed(x: i32) -> i64
-    ensures { λ r. ⌜ r ≡ x ⌝ }
-{
-    x as i64
 }
 
 // A slope times a breakpoint.
@@ -59,7 +53,7 @@ fn step(slopes: &[u32; 17], breakpoints: &[i32; 16], m: usize, i: usize) -> i64
     requires { ⌜ CurveInLimits (slopesTo (now slopes) m) (breakpointsTo (now breakpoints) m) × (i < m) ⌝ }
     ensures { λ r. ⌜ Step (slopesTo (now (slopes .entry)) m) (breakpointsTo (now (breakpoints .entry)) m) i r ⌝ }
 {
-    let b = wide_signed(breakpoints[i]);
+    let b = signed::widened(breakpoints[i]);
     signed::minus(product(wide(slopes[i]), b), product(wide(slopes[i + 1]), b))
 }
 
@@ -72,7 +66,7 @@ fn zero_offset(slopes: &[u32; 17], breakpoints: &[i32; 16], m: usize) -> i64
     let mut sum: i64 = 0;
     let mut i: usize = 0;
     while i < m {
-        if signed::less(0, wide_signed(breakpoints[i])) {
+        if signed::less(0, signed::widened(breakpoints[i])) {
             return sum;
         }
         sum = signed::plus(sum, step(slopes, breakpoints, m, i));
@@ -108,7 +102,7 @@ pub fn fill(
         put(
             stretches,
             first + i,
-            wide_signed(breakpoints[i]),
+            signed::widened(breakpoints[i]),
             wide(slopes[i]),
             line,
         );

@@ -3,6 +3,7 @@
 use mathlib.Core.Path.{_≡_, refl, sym, _∙_, ap}
 use mathlib.Core.List.{List, [], _∷_}
 use Prim.Native.Nat.{ℕ, zero, suc, _*_, _≤_, _<_}
+use native.Mathlib.Nat.{mul-zero, mul-suc}
 use native.Mathlib.Omega.{arith}
 use lib.ListN.{length, getD}
 use lib.IntN.{*ℤ-zero, ℤ, pos, _+ℤ_, _-ℤ_, _*ℤ_}
@@ -90,3 +91,22 @@ module _ (k : ℕ) where
         let f = ramp k ss bs in
         let d = pos (getD ss j 0) in
         omega (signs, ramp-slope ss bs v j l before after, add-law (f v) d, sub-law (f (v +ℤ pos 1)) (f (pos 0)), sub-law (f v) (f (pos 0)), add-law (f v -ℤ f (pos 0)) d)
+
+    -- so within a stretch it rises by its slope times the way
+    pub curve-straight : (v : ℤ) (j d : ℕ) → j ≤ length bs → ((i : ℕ) → i < j → (pos k *ℤ reading bs i) ≤ℤ v) → (j < length bs → (v +ℤ pos d) ≤ℤ (pos k *ℤ reading bs j)) → current k (curve ss bs) x (v +ℤ pos d) ≡ current k (curve ss bs) x v +ℤ pos (getD ss j 0 * d)
+    curve-straight v j zero l before after =
+        let f = current k (curve ss bs) x in
+        let s = getD ss j 0 in
+        let none : s * 0 ≡ 0 = mul-zero s in
+        let here : v +ℤ pos 0 ≡ v = omega (signs, add-law v (pos 0), pos-law 0) in
+        rw (none, here) (omega (signs, add-law (f v) (pos 0), pos-law 0))
+    curve-straight v j (suc d) l before after =
+        let f = current k (curve ss bs) x in
+        let s = getD ss j 0 in
+        let u = v +ℤ pos d in
+        let here = add-law v (pos d) in
+        let there = add-law v (pos (suc d)) in
+        let next : v +ℤ pos (suc d) ≡ u +ℤ pos 1 = omega (signs, here, there, add-law u (pos 1), pos-law d, pos-law (suc d), pos-law 1) in
+        let rise = curve-slope u j l (λ i h. omega (signs, here, pos-law d, before i h)) (λ h. omega (signs, here, there, pos-law d, pos-law (suc d), after h)) in
+        let rest = curve-straight v j d l before (λ h. omega (signs, here, there, pos-law d, pos-law (suc d), after h)) in
+        rw next (omega (signs, rise, rest, add-law (f u) (pos s), add-law (f v) (pos (s * d)), add-law (f v) (pos (s * suc d)), pos-law s, pos-law (s * d), pos-law (s * suc d), mul-suc s d))

@@ -35,6 +35,12 @@ pub every-more : (f : ℕ → Bool) (n : ℕ) → every f n ≡ true → f n ≡
 unfolding every
 every-more f n e h = rw (add-one, e) h
 
+-- each of them
+pub every-each : (f : ℕ → Bool) (n : ℕ) → ((i : ℕ) → i < n → f i ≡ true) → every f n ≡ true
+unfolding every
+every-each f zero each = refl
+every-each f (suc n) each = rw (every-each f n (λ i l. each i (omega arith)), each n (omega arith))
+
 -- what every says of each
 pub every-says : (f : ℕ → Bool) (n i : ℕ) → every f n ≡ true → i < n → f i ≡ true
 unfolding every

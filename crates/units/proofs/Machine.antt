@@ -1,16 +1,16 @@
 -- Numbers with a sign on the machine: an operand stands in a local as its bits, `ofZ w a`, and is read back by `toZ w`. One
 -- law for every operation at every width. Assumes nothing.
 use mathlib.Core.Path.{_≡_, refl, ap}
-use native.Mathlib.Omega.{arith}
-use borrow.Author.Tests.{le-ltb, leb-false, ltb-true}
 use mathlib.Core.Bool.{true, false, false≢true, true≢false}
 use Prim.Native.Nat.{ℕ, zero, suc, _-_, _≤_, _<_, _^_}
+use native.Mathlib.Omega.{arith}
 use lib.IntN.{ℤ, pos, negsuc, natAbs, _-ℤ_}
 use lib.Dec.{T}
 use lib.Signed.{leZ, ltZ, mag, nonNeg}
-use mir.Syntax.{Width, w64}
+use mir.Syntax.{Width, w32, w64}
 use mir.Val.{Fits, SFits, toZ, ofZ}
 use mir.Facts.{toZ-ofZ}
+use borrow.Author.Tests.{le-ltb, leb-false, ltb-true}
 
 -- the operation's result fits, and is the operation's on ℤ
 pub op-fits : {w : Width} (f : ℤ → ℤ → ℤ) {a b : ℤ} → SFits w a → SFits w b → SFits w (f a b) → SFits w (f (toZ w (ofZ w a)) (toZ w (ofZ w b)))
@@ -19,13 +19,16 @@ op-fits f p q r = rw (toZ-ofZ p, toZ-ofZ q) r
 pub op-is : {w : Width} (f : ℤ → ℤ → ℤ) {a b : ℤ} → SFits w a → SFits w b → SFits w (f a b) → toZ w (ofZ w (f (toZ w (ofZ w a)) (toZ w (ofZ w b)))) ≡ f a b
 op-is f p q r = rw (toZ-ofZ p, toZ-ofZ q) (toZ-ofZ r)
 
--- a bound on the size is a fit at 64 bits
+-- a bound on the size is a fit, at 64 bits and at 32
+mag-size : (z : ℤ) → mag z ≤ natAbs z
+mag-size (pos n) = omega arith
+mag-size (negsuc n) = omega arith
+
 pub fits-size : (z : ℤ) (n : ℕ) → natAbs z ≤ n → n < 2 ^ 63 → SFits w64 z
 fits-size z n h k = record { sfits = omega (arith, mag-size z) }
-  where
-    mag-size : (z : ℤ) → mag z ≤ natAbs z
-    mag-size (pos n) = omega arith
-    mag-size (negsuc n) = omega arith
+
+pub fits-half : (z : ℤ) (n : ℕ) → natAbs z ≤ n → n < 2 ^ 31 → SFits w32 z
+fits-half z n h k = record { sfits = omega (arith, mag-size z) }
 
 -- -1 - y is -(y + 1), and back
 pub less-one : (y : ℕ) → negsuc 0 -ℤ pos y ≡ negsuc y

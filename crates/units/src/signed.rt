@@ -50,6 +50,13 @@ pub fn whole(n: u64) -> i64
     n as i64
 }
 
+// A number of 32 bits at 64.
+pub fn widened(x: i32) -> i64
+    ensures { λ r. ⌜ r ≡ x ⌝ }
+{
+    x as i64
+}
+
 // How large a number is, whatever its sign.
 pub fn size(z: i64) -> u64
     ensures { λ r. ⌜ r ≡ natAbs z ⌝ }

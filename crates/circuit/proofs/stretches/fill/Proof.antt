@@ -50,14 +50,14 @@ room c = let s = c .before .before .before .before in (c .loop-test .taken, few 
 add-put : tie.Need-add-put Inv-loop μ-loop
 add-put c = let s = c .before .before .before .before .before in record { fits = omega (arith, room (c .before), s .pre .1) }
 
-mul-wide-signed : tie.Need-mul-wide-signed Inv-loop μ-loop
-mul-wide-signed c = record { fits = omega (arith, room (c .before)) }
+mul-widened : tie.Need-mul-widened Inv-loop μ-loop
+mul-widened c = record { fits = omega (arith, room (c .before)) }
 
-element-copy-out-wide-signed : tie.Need-element-copy-out-wide-signed Inv-loop μ-loop
-element-copy-out-wide-signed c = omega (arith, room (c .before))
+element-copy-out-widened : tie.Need-element-copy-out-widened Inv-loop μ-loop
+element-copy-out-widened c = omega (arith, room (c .before))
 
-wide-signed-requires : tie.Need-wide-signed-requires Inv-loop μ-loop
-wide-signed-requires c κs = search needs
+widened-requires : tie.Need-widened-requires Inv-loop μ-loop
+widened-requires c κs = search needs
 
 mul-wide : tie.Need-mul-wide Inv-loop μ-loop
 mul-wide c = record { fits = omega (arith, room (c .before .before .before)) }
@@ -93,15 +93,15 @@ loop-less : tie.Need-loop-less Inv-loop μ-loop
 loop-less c = search needs
 
 -- a row's numbers, as the code has them
-at-breakpoint : (c : tie.After-wide-signed Inv-loop μ-loop) → toZ w64 (ofZ w64 (c .wide-signed .result)) ≡ rowNumber (slopesTo (c .before .before .before .before .before .before .before .args .slopes .now) (c .before .before .before .before .before .before .before .args .m)) (breakpointsTo (c .before .before .before .before .before .before .before .args .breakpoints .now) (c .before .before .before .before .before .before .before .args .m)) (c .before .before .before .before .loop .i) 0
+at-breakpoint : (c : tie.After-widened Inv-loop μ-loop) → toZ w64 (ofZ w64 (c .widened .result)) ≡ rowNumber (slopesTo (c .before .before .before .before .before .before .before .args .slopes .now) (c .before .before .before .before .before .before .before .args .m)) (breakpointsTo (c .before .before .before .before .before .before .before .args .breakpoints .now) (c .before .before .before .before .before .before .before .args .m)) (c .before .before .before .before .loop .i) 0
 unfolding rowNumber
 at-breakpoint c =
     let l = c .before .before .before in
     let s = l .before .before .before .before in
     let z = reading (s .args .breakpoints .now) (l .before .loop .i) in
-    let e : toZ w64 (ofZ w64 (c .wide-signed .result)) ≡ c .wide-signed .result = search needs in
+    let e : toZ w64 (ofZ w64 (c .widened .result)) ≡ c .widened .result = search needs in
     let f : toZ w32 (ofZ w32 z) ≡ z = search needs in
-    e ∙ c .wide-signed .ensures ∙ f ∙ sym (breakpoint-to (s .args .slopes .now) (s .args .breakpoints .now) (s .args .m) (l .before .loop .i) (room l .0))
+    e ∙ c .widened .ensures ∙ f ∙ sym (breakpoint-to (s .args .slopes .now) (s .args .breakpoints .now) (s .args .m) (l .before .loop .i) (room l .0))
 
 loop-again : tie.Need-loop-again Inv-loop μ-loop
 unfolding rowNumber
@@ -159,9 +159,9 @@ fill-spec =
     minus-requires
     loop-holds
     add-put
-    mul-wide-signed
-    element-copy-out-wide-signed
-    wide-signed-requires
+    mul-widened
+    element-copy-out-widened
+    widened-requires
     mul-wide
     element-copy-out-wide
     wide-requires

@@ -13,13 +13,13 @@ use Rattle.circuit.proofs.stretches.step.Statement.{statement}
 use Rattle.circuit.proofs.stretches.step.Tie as tie
 
 -- the breakpoint, and the two products, as numbers with a sign
-at-breakpoint : (c : tie.After-wide-signed) → toZ w64 (ofZ w64 (c .wide-signed .result)) ≡ reading (c .before .before .args .breakpoints .now) (c .before .before .args .i)
+at-breakpoint : (c : tie.After-widened) → toZ w64 (ofZ w64 (c .widened .result)) ≡ reading (c .before .before .args .breakpoints .now) (c .before .before .args .i)
 at-breakpoint c =
     let s = c .before .before in
     let z = reading (s .args .breakpoints .now) (s .args .i) in
-    let e : toZ w64 (ofZ w64 (c .wide-signed .result)) ≡ c .wide-signed .result = search needs in
+    let e : toZ w64 (ofZ w64 (c .widened .result)) ≡ c .widened .result = search needs in
     let f : toZ w32 (ofZ w32 z) ≡ z = search needs in
-    e ∙ c .wide-signed .ensures ∙ f
+    e ∙ c .widened .ensures ∙ f
 
 at-below : (c : tie.After-product2) → toZ w64 (ofZ w64 (c .before .before .before .product .result)) ≡ c .before .before .before .product .result
 at-below c = search needs
@@ -27,14 +27,14 @@ at-below c = search needs
 at-above : (c : tie.After-product2) → toZ w64 (ofZ w64 (c .product2 .result)) ≡ c .product2 .result
 at-above c = search needs
 
-mul-wide-signed : tie.Need-mul-wide-signed
-mul-wide-signed c = record { fits = omega (arith, c .pre .1, few _ _ _ (c .pre .0)) }
+mul-widened : tie.Need-mul-widened
+mul-widened c = record { fits = omega (arith, c .pre .1, few _ _ _ (c .pre .0)) }
 
-element-copy-out-wide-signed : tie.Need-element-copy-out-wide-signed
-element-copy-out-wide-signed c = omega (arith, c .pre .1, few _ _ _ (c .pre .0))
+element-copy-out-widened : tie.Need-element-copy-out-widened
+element-copy-out-widened c = omega (arith, c .pre .1, few _ _ _ (c .pre .0))
 
-wide-signed-requires : tie.Need-wide-signed-requires
-wide-signed-requires c κs = search needs
+widened-requires : tie.Need-widened-requires
+widened-requires c κs = search needs
 
 mul-wide : tie.Need-mul-wide
 mul-wide c = let s = c .before .before in record { fits = omega (arith, s .pre .1, few _ _ _ (s .pre .0)) }
@@ -90,9 +90,9 @@ pub step-spec : {M : Type 1} → statement M
 step-spec =
     tie.close
     (tie.spec
-    mul-wide-signed
-    element-copy-out-wide-signed
-    wide-signed-requires
+    mul-widened
+    element-copy-out-widened
+    widened-requires
     mul-wide
     element-copy-out-wide
     wide-requires

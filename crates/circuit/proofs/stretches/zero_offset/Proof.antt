@@ -23,26 +23,26 @@ abbrev μ-loop : tie.MeasureT-loop
 μ-loop slopes breakpoints m sum₀ i₀ sum i = m - i
 
 -- breakpoint i, as a number with a sign
-at-i : (c : tie.After-less Inv-loop μ-loop) → toZ w64 (ofZ w64 (c .before .wide-signed .result)) ≡ reading (breakpointsTo (c .before .before .before .before .before .args .breakpoints .now) (c .before .before .before .before .before .args .m)) (c .before .before .before .before .loop .i)
+at-i : (c : tie.After-less Inv-loop μ-loop) → toZ w64 (ofZ w64 (c .before .widened .result)) ≡ reading (breakpointsTo (c .before .before .before .before .before .args .breakpoints .now) (c .before .before .before .before .before .args .m)) (c .before .before .before .before .loop .i)
 at-i c =
     let s = c .before .before .before .before .before in
     let i = c .before .before .before .before .loop .i in
     let z = reading (s .args .breakpoints .now) i in
-    let e : toZ w64 (ofZ w64 (c .before .wide-signed .result)) ≡ c .before .wide-signed .result = search needs in
+    let e : toZ w64 (ofZ w64 (c .before .widened .result)) ≡ c .before .widened .result = search needs in
     let f : toZ w32 (ofZ w32 z) ≡ z = search needs in
-    e ∙ c .before .wide-signed .ensures ∙ f ∙ sym (breakpoint-to (s .args .slopes .now) (s .args .breakpoints .now) (s .args .m) i (omega arith))
+    e ∙ c .before .widened .ensures ∙ f ∙ sym (breakpoint-to (s .args .slopes .now) (s .args .breakpoints .now) (s .args .m) i (omega arith))
 
 loop-holds : tie.Need-loop-holds Inv-loop μ-loop
 loop-holds c = (search needs, offset-none _ _, λ k h. absurd (omega arith))
 
-mul-wide-signed : tie.Need-mul-wide-signed Inv-loop μ-loop
-mul-wide-signed c = let s = c .before .before in record { fits = omega (arith, few _ _ _ (s .pre), c .loop-test .taken) }
+mul-widened : tie.Need-mul-widened Inv-loop μ-loop
+mul-widened c = let s = c .before .before in record { fits = omega (arith, few _ _ _ (s .pre), c .loop-test .taken) }
 
-element-copy-out-wide-signed : tie.Need-element-copy-out-wide-signed Inv-loop μ-loop
-element-copy-out-wide-signed c = let s = c .before .before in omega (arith, few _ _ _ (s .pre), c .loop-test .taken)
+element-copy-out-widened : tie.Need-element-copy-out-widened Inv-loop μ-loop
+element-copy-out-widened c = let s = c .before .before in omega (arith, few _ _ _ (s .pre), c .loop-test .taken)
 
-wide-signed-requires : tie.Need-wide-signed-requires Inv-loop μ-loop
-wide-signed-requires c κs = search needs
+widened-requires : tie.Need-widened-requires Inv-loop μ-loop
+widened-requires c κs = search needs
 
 less-requires : tie.Need-less-requires Inv-loop μ-loop
 less-requires c κs = search needs
@@ -98,9 +98,9 @@ zero-offset-spec =
     Inv-loop
     μ-loop
     loop-holds
-    mul-wide-signed
-    element-copy-out-wide-signed
-    wide-signed-requires
+    mul-widened
+    element-copy-out-widened
+    widened-requires
     less-requires
     returns
     step-requires
