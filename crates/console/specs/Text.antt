@@ -25,9 +25,12 @@ sign (negsuc n) = 45 ∷ []
 abbrev pub lineEnd : List ℕ
 lineEnd = 10 ∷ []
 
--- a number as a line
+-- a number with its sign, and as a line
+unfoldable pub number : ℤ → List ℕ
+number z = sign z ++ decimal (natAbs z)
+
 unfoldable pub line : ℤ → List ℕ
-line z = sign z ++ (decimal (natAbs z) ++ lineEnd)
+line z = number z ++ lineEnd
 
 -- `refused `, which a refusal's number follows
 abbrev pub refusedWord : List ℕ

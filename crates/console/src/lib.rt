@@ -1,2 +1,4 @@
-// What the programs share: numbers and words as text.
+// What the programs share: numbers and words as text, written and read.
+pub mod number;
 pub mod text;
+pub mod words;

@@ -3,7 +3,7 @@
 use units::signed;
 ghost use Prim.Native.Nat.{_+_, _≤_};
 ghost use lib.ListN.{length};
-ghost use Rattle.console.specs.Text.{decimal, sign, line, Adds};
+ghost use Rattle.console.specs.Text.{decimal, sign, number, line, Adds};
 
 // A word as it stands.
 pub fn put_word(text: &mut [u8], at: usize, word: &[u8]) -> usize
@@ -39,12 +39,20 @@ fn put_sign(text: &mut [u8], at: usize, z: i64) -> usize
     at
 }
 
-// A number with its sign, and the line's end.
+// A number with its sign.
+pub fn put_number(text: &mut [u8], at: usize, z: i64) -> usize
+    requires { ⌜ at + 21 ≤ length (now text) ⌝ }
+    ensures { λ r. ⌜ Adds (number z) 21 at (now (text .entry)) r (now (text .exit)) ⌝ }
+{
+    let digits = put_sign(text, at, z);
+    put_decimal(text, digits, signed::size(z))
+}
+
+// The same, and the line's end.
 pub fn put_line(text: &mut [u8], at: usize, z: i64) -> usize
     requires { ⌜ at + 22 ≤ length (now text) ⌝ }
     ensures { λ r. ⌜ Adds (line z) 22 at (now (text .entry)) r (now (text .exit)) ⌝ }
 {
-    let digits = put_sign(text, at, z);
-    let end = put_decimal(text, digits, signed::size(z));
+    let end = put_number(text, at, z);
     put_word(text, end, b"\n")
 }

@@ -4,12 +4,12 @@ use mathlib.Core.List.{[], _∷_, _++_}
 use Prim.Native.Nat.{ℕ}
 use lib.IntN.{pos, negsuc}
 use lib.ListN.{getD}
-use Rattle.console.specs.Text.{decimalIn, decimal, line}
+use Rattle.console.specs.Text.{decimalIn, decimal, number, line}
 use Rattle.rendering.specs.Rendering.{lines, ending}
 
 -- 0, 499999, -500000 and `end 3`
 pub document-example : lines (λ (j : ℕ). getD (pos 0 ∷ pos 499999 ∷ negsuc 499999 ∷ []) j (pos 0)) 3 ++ ending 0 3 ≡ 48 ∷ 10 ∷ 52 ∷ 57 ∷ 57 ∷ 57 ∷ 57 ∷ 57 ∷ 10 ∷ 45 ∷ 53 ∷ 48 ∷ 48 ∷ 48 ∷ 48 ∷ 48 ∷ 10 ∷ 101 ∷ 110 ∷ 100 ∷ 32 ∷ 51 ∷ 10 ∷ []
-unfolding lines line decimal decimalIn
+unfolding lines line number decimal decimalIn
 document-example = refl
 
 -- `refused 10 after 1024`

@@ -1,0 +1,59 @@
+// Text taken apart: what stands at its start and is of one kind, and what follows on that.
+ghost use mathlib.Core.Path.{_≡_};
+ghost use Rattle.console.specs.Words.{isBlank, belongs, leading, first, rest};
+
+// Blanks between words; a word; a line up to its end; what a line says up to its comment.
+pub enum Run {
+    Blanks,
+    Word,
+    Line,
+    Said,
+}
+
+// Space, tab, and the carriage return that some systems put before a line's end.
+fn is_blank(byte: u8) -> bool
+    ensures { λ r. ⌜ r ≡ isBlank byte ⌝ }
+{
+    (byte == 32) | (byte == 9) | (byte == 13)
+}
+
+fn belongs(run: Run, byte: u8) -> bool
+    ensures { λ r. ⌜ r ≡ belongs run byte ⌝ }
+{
+    match run {
+        Run::Blanks => is_blank(byte),
+        Run::Word => !is_blank(byte),
+        Run::Line => byte != 10,
+        Run::Said => byte != 59,
+    }
+}
+
+// How many bytes at the start belong to the run.
+fn leading(run: Run, text: &[u8]) -> usize
+    ensures { λ r. ⌜ r ≡ leading (belongs run) (now (text .entry)) ⌝ }
+{
+    let mut j: usize = 0;
+    while j < text.len() {
+        if !belongs(run, text[j]) {
+            return j;
+        }
+        j += 1;
+    }
+    j
+}
+
+// Those bytes.
+pub fn first<'a>(run: Run, text: &'a [u8]) -> &'a [u8]
+    ensures { λ r. ⌜ now r ≡ first run (now (text .entry)) ⌝ }
+{
+    let n = leading(run, text);
+    &text[..n]
+}
+
+// The bytes after them.
+pub fn rest<'a>(run: Run, text: &'a [u8]) -> &'a [u8]
+    ensures { λ r. ⌜ now r ≡ rest run (now (text .entry)) ⌝ }
+{
+    let n = leading(run, text);
+    &text[n..]
+}
