@@ -60,14 +60,14 @@ pub struct Dice(pub u64);
 
 impl Dice {
     /// A whole number from `low` to `high`.
-    fn roll(&mut self, low: i64, high: i64) -> i64 {
+    pub fn roll(&mut self, low: i64, high: i64) -> i64 {
         self.0 ^= self.0 << 13;
         self.0 ^= self.0 >> 7;
         self.0 ^= self.0 << 17;
         low + (self.0 >> 8) as i64 % (high - low + 1)
     }
 
-    fn one_of(&mut self, numbers: [i64; 3]) -> i64 {
+    pub fn one_of(&mut self, numbers: [i64; 3]) -> i64 {
         numbers[self.roll(0, 2) as usize]
     }
 

@@ -1,13 +1,15 @@
-//! Tests the second program: document 01's rows that no rendering meets, and brute force on random circuits.
-//! An argument is the number of random circuits for each kind of brute force.
+//! Tests the second program: document 01's rows that no rendering meets, and brute force on random circuits and measured lists.
+//! An argument is the number of them for each kind of brute force.
 
 mod block;
 mod brute;
 mod image;
+mod measured;
 mod network;
 mod rows;
 mod search;
 mod start;
+mod walk;
 
 fn main() {
     let rounds = std::env::args().nth(1).and_then(|word| word.parse().ok()).unwrap_or(500);
@@ -18,4 +20,6 @@ fn main() {
     println!("{} samples by microvolts, with state", brute::small_currents(&mut dice, rounds));
     let (samples, refused, given_up) = brute::real_sizes(&mut dice, rounds);
     println!("{samples} samples by bisection, {refused} of them refused by the rail; {given_up} circuits given up");
+    let (lists, made_up) = walk::lists(&mut dice, rounds);
+    println!("{lists} measured lists walked, {made_up} slopes in them make up for a shortfall");
 }
