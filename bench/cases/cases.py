@@ -35,9 +35,13 @@ def contents(path):
     return path.read_bytes() if path.exists() else None
 
 
-def lines_of(program, name):
-    run = subprocess.run([*program, DATA / f"{name}.image", DATA / f"{name}.drives"], stdout=subprocess.PIPE)
+def lines_of(program, *files):
+    run = subprocess.run([*program, *files], stdout=subprocess.PIPE)
     return run.stdout if run.returncode == 0 else f"exit {run.returncode}".encode()
+
+
+def rendered(program, name):
+    return lines_of(program, DATA / f"{name}.image", DATA / f"{name}.drives")
 
 
 def arguments(cases):
@@ -45,15 +49,20 @@ def arguments(cases):
     return "".join(f"{name}.image\n{name}.drives\n" for name in cases)
 
 
-def expected():
-    """The lines of every case by name: `args` has their order, and the last line of each says how it ended."""
+def parted(lines, endings):
+    """The lines of each case, whose last one begins with one of the endings."""
     found = [[]]
-    for line in LINES.read_text().splitlines(keepends=True):
+    for line in lines.splitlines(keepends=True):
         found[-1].append(line)
-        if line.startswith(("end ", "refused ")):
+        if line.startswith(endings):
             found.append([])
+    return [b"".join(case) for case in found[:-1]]
+
+
+def expected():
+    """The lines of every case by name: `args` has their order."""
     names = [image.removesuffix(".image") for image in NAMES.read_text().split()[::2]]
-    return {name: "".join(lines).encode() for name, lines in zip(names, found[:-1], strict=True)}
+    return dict(zip(names, parted(LINES.read_bytes(), (b"end ", b"refused ")), strict=True))
 
 
 def make(program):
@@ -62,11 +71,9 @@ def make(program):
         old.unlink()
     cases = builds()
     for name, build in cases.items():
-        for kind, new in ("image", build.image), ("drives", build.drives):
-            if new is not None:
-                (DATA / f"{name}.{kind}").write_bytes(new)
+        build.write(DATA / name)
     NAMES.write_text(arguments(cases))
-    LINES.write_bytes(b"".join(lines_of(program, name) for name in cases))
+    LINES.write_bytes(b"".join(rendered(program, name) for name in cases))
 
 
 def complaints(program, name, build, lines):
@@ -74,10 +81,18 @@ def complaints(program, name, build, lines):
     for kind, wanted in ("image", build.image), ("drives", build.drives):
         if contents(DATA / f"{name}.{kind}") != wanted:
             yield f"{name}.{kind} is not what the case says"
-    if lines_of(program, name) != lines:
+    if rendered(program, name) != lines:
         yield f"{program[-1]} does not write the lines of {name}"
     if not " ".join(lines.decode().split()).endswith(build.expected):
         yield f"the lines of {name} do not end with: {build.expected}"
+
+
+def verdict(cases, found):
+    """Tells the complaints that were found in so many cases; what to exit with."""
+    for words in found:
+        print(words)
+    print(f"{cases} cases, {len(found)} complaints")
+    return 1 if found else 0
 
 
 def check(program):
@@ -87,13 +102,14 @@ def check(program):
     found += [f"{path.name} belongs to no case" for path in DATA.iterdir() if path.name not in known]
     if NAMES.read_text() != arguments(cases) or LINES.read_bytes() != b"".join(lines.values()):
         found.append("args or stdout do not have the cases in their order")
-    for words in found:
-        print(words)
-    print(f"{len(cases)} cases, {len(found)} complaints")
-    return 1 if found else 0
+    return verdict(len(cases), found)
+
+
+def main(usage, make, check):
+    if len(sys.argv) < 3 or sys.argv[1] not in ("make", "check"):
+        sys.exit(usage)
+    sys.exit({"make": make, "check": check}[sys.argv[1]](sys.argv[2:]))
 
 
 if __name__ == "__main__":
-    if len(sys.argv) < 3 or sys.argv[1] not in ("make", "check"):
-        sys.exit(__doc__)
-    sys.exit({"make": make, "check": check}[sys.argv[1]](sys.argv[2:]))
+    main(__doc__, make, check)
