@@ -1,0 +1,3 @@
+pub mod Kept
+pub mod Report
+pub mod Text
