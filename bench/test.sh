@@ -5,4 +5,5 @@ cd "$(dirname "$0")/.."
 bench/build.sh
 target/bench/selftest
 python3 bench/cases/cases.py check target/bench/second
+python3 bench/cases/pairs.py check target/bench/curve
 python3 bench/float/compare.py target/bench/float

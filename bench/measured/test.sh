@@ -1,14 +1,12 @@
 #!/bin/sh
 # test.sh [COUNT]: holds the proved program `curve` against the second one on random lists, 10,000 unless said; every byte of their lines is compared. Before that
-# the second one's cases, and the example: the measured diode is one of them, its curve is the bench's, and the circuit with it is the bench's clipper.
+# the example: the measured diode is one of the cases, its curve is the bench's, and the circuit with it is the bench's clipper.
 # PROGRAM names another program to be held against it.
 set -e
 cd "$(dirname "$0")/../.."
 count=${1:-10000}
 program=${PROGRAM:-./run curve}
 bench/build.sh
-python3 bench/cases/pairs.py check target/bench/curve
-
 room=target/bench/measured
 rm -rf "$room"
 mkdir "$room"

@@ -1,4 +1,4 @@
--- What digits are worth, digit by digit, and when that is beyond 64 bits. Assumes nothing.
+-- What digits are worth, digit by digit, and when that is 2^63 or more. Assumes nothing.
 use mathlib.Core.Path.{_≡_, refl}
 use mathlib.Core.Bool.{true, false}
 use mathlib.Core.List.{List, [], _∷_}

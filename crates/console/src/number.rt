@@ -1,4 +1,4 @@
-// Numbers read from text: any bytes are a number that fits 64 bits, one that is larger, or none.
+// Numbers read from text: any bytes are a number below 2^63 in size, one that is larger, or none.
 use units::signed;
 ghost use mathlib.Core.Path.{_≡_};
 ghost use mathlib.Core.Bool.{true};
@@ -62,6 +62,7 @@ fn worth(digits: &[u8]) -> u64
     BEYOND
 }
 
+// A number of this size, below zero or not.
 fn value(negative: bool, size: u64) -> i64
     requires { ⌜ size < 2 ^ 63 ⌝ }
     ensures { λ r. ⌜ r ≡ signed negative size ⌝ }

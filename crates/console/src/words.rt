@@ -17,6 +17,7 @@ fn is_blank(byte: u8) -> bool
     (byte == 32) | (byte == 9) | (byte == 13)
 }
 
+// Whether a byte belongs to the run.
 fn belongs(run: Run, byte: u8) -> bool
     ensures { λ r. ⌜ r ≡ belongs run byte ⌝ }
 {

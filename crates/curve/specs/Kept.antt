@@ -10,7 +10,7 @@ use Rattle.curve.specs.Text.{Told, told, broken, joined, answer}
 use Rattle.curve.specs.declared.line.Line.{Line}
 use Rattle.curve.specs.declared.pairs.Kept.{Kept}
 
--- no more pairs than there is room for, which the code knows of an array and not of a struct's
+-- no more pairs than there is room for; how long an array is, the code knows of one by value and not of a struct's field
 pub record Sized (kept : Kept) : Type 0 where
   pub count : kept .count ≤ mostPairs
   pub voltages : length (kept .voltages) ≡ mostPairs

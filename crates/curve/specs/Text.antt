@@ -22,7 +22,7 @@ use Rattle.curve.specs.declared.line.Line.the-variants.{Empty, Pair, Oth
 abbrev pub nextWord : List ℕ → List ℕ
 nextWord text = rest Blanks (rest Word text)
 
--- two words are a pair if both are numbers of 64 bits: a larger one would break a rule of the pairs in any case
+-- two words are a pair if both are numbers below 2^63 in size: a larger one would break a rule of the pairs in any case
 abbrev pub pairOf : Spelt → Spelt → Line
 pairOf (Value v) (Value i) = Pair v i
 pairOf (Value v) Nothing = Other

@@ -21,7 +21,7 @@ fn next_word<'a>(text: &'a [u8]) -> &'a [u8]
     words::rest(Run::Blanks, after)
 }
 
-// Two words as a pair. A number beyond 64 bits is one that no rule lets pass.
+// Two words as a pair. A number of 2^63 or more in size is one that no rule lets pass.
 fn pair(voltage: Spelt, current: Spelt) -> Line
     ensures { λ r. ⌜ r ≡ pairOf voltage current ⌝ }
 {
@@ -36,6 +36,7 @@ fn pair(voltage: Spelt, current: Spelt) -> Line
     }
 }
 
+// What a line says.
 pub fn read(line: &[u8]) -> Line
     ensures { λ r. ⌜ r ≡ lineOf (now (line .entry)) ⌝ }
 {

@@ -10,7 +10,7 @@ ghost use mathlib.Core.Bool.{false};
 ghost use mathlib.Core.List.{[]};
 ghost use Prim.Native.Nat.{_≤_};
 ghost use lib.ListN.{length};
-ghost use Rattle.curve.specs.Text.{Told, told, joined, lineOf, lines, toldBy, answer, longestText, curveOf};
+ghost use Rattle.curve.specs.Text.{told, lineOf, lines, toldBy, answer, longestText, curveOf};
 ghost use Rattle.curve.specs.Kept.{Sized, Reads, toldWith};
 ghost use Rattle.curve.specs.declared.line.Line.the-variants.{Pair};
 
@@ -23,11 +23,10 @@ struct Kept {
     currents: [i64; 17],
 }
 
-const MOST: usize = 17;
-
 // The longest text that is read, in bytes.
 const LONGEST: usize = 65535;
 
+// What is kept once it is whole no more.
 fn broken() -> Kept
     ensures { λ r. ⌜ (r .whole ≡ false) × Sized r ⌝ }
 {
@@ -45,7 +44,7 @@ fn one_more(kept: Kept, voltage: i64, current: i64) -> Kept
     ensures { λ r. ⌜ Reads kept (Pair voltage current) r ⌝ }
 {
     let n = kept.count;
-    if MOST <= n {
+    if measured::MOST <= n {
         return broken();
     }
     let mut voltages = kept.voltages;

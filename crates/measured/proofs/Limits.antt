@@ -1,32 +1,22 @@
 -- The curve of a measured list is within document 01's limits, as image's rules 3 and 4 ask. Assumes nothing.
-use mathlib.Core.Path.{_≡_, refl}
-use mathlib.Core.Bool.{Bool, true, false}
+use mathlib.Core.Path.{_≡_}
+use mathlib.Core.Bool.{true}
 use mathlib.Core.List.{List}
-use Prim.Native.Nat.{ℕ, suc, _+_, _-_}
+use Prim.Native.Nat.{suc, _+_, _-_}
 use native.Mathlib.Numerals.{add-one}
 use native.Mathlib.Omega.{arith}
-use lib.Dec.{leb}
 use lib.IntN.{ℤ}
 use lib.ListN.{length}
-use lib.Signed.{_<ℤ_, ltZ}
 use borrow.Author.Tests.{le-leb}
 use Rattle.units.specs.Table.{every}
 use Rattle.units.proofs.Every.{every-each, every-says}
-use Rattle.units.proofs.Integers.{signs, ltZ-false}
-use Rattle.network.specs.Network.{reading, conductanceLimit, breakpointLimit, breakpointCountLimit}
+use Rattle.units.proofs.Integers.{ltZ-holds}
+use Rattle.network.specs.Network.{reading, breakpointLimit, breakpointCountLimit}
 use Rattle.image.specs.Parts.{curveSizeFits, slopeFits, breakpointFits, rises, curveFits}
 use Rattle.image.specs.declared.parts.Curve.{Curve}
-use Rattle.measured.specs.Measured.{sizeAt, slopeAt, curveOf, slopesFit}
+use Rattle.measured.specs.Measured.{sizeAt, slopeSmall, curveOf, slopesFit}
 use Rattle.measured.proofs.PairLaws.{PairsSay, volt-small}
 use Rattle.measured.proofs.Through.{many, breakpoint-at, slope-at}
-
--- the order and its test
-less : (a b : ℤ) → a <ℤ b → ltZ a b ≡ true
-less a b h = go (ltZ a b) refl
-  where
-    go : (t : Bool) → ltZ a b ≡ t → t ≡ true
-    go true e = refl
-    go false e = absurd (omega (signs, h, ltZ-false a b e))
 
 module _ (volts amps : List ℤ) (say : PairsSay volts amps) where
   abbrev c : Curve
@@ -44,7 +34,7 @@ module _ (volts amps : List ℤ) (say : PairsSay volts amps) where
     unfolding slopesFit
     slopes-fit =
         every-each (slopeFits (c .slopes)) (c .count + 1)
-        (λ i h. rw (slope-at volts amps say i (omega arith)) (every-says (λ (j : ℕ). leb (slopeAt volts amps j) conductanceLimit) (length volts) i steep (omega (arith, many volts amps say))))
+        (λ i h. rw (slope-at volts amps say i (omega arith)) (every-says (slopeSmall volts amps) (length volts) i steep (omega (arith, many volts amps say))))
 
     breakpoints-fit : every (breakpointFits (c .breakpoints)) (c .count) ≡ true
     breakpoints-fit =
@@ -54,7 +44,7 @@ module _ (volts amps : List ℤ) (say : PairsSay volts amps) where
     rising : every (rises (c .breakpoints)) (c .count - 1) ≡ true
     rising =
         every-each (rises (c .breakpoints)) (c .count - 1)
-        (λ i h. rw (add-one i, breakpoint-at volts amps say i (omega arith), breakpoint-at volts amps say (suc i) (omega arith)) (less (reading volts i) (reading volts (suc i)) (say .rises i (omega (arith, many volts amps say)))))
+        (λ i h. rw (add-one i, breakpoint-at volts amps say i (omega arith), breakpoint-at volts amps say (suc i) (omega arith)) (ltZ-holds (reading volts i) (reading volts (suc i)) (say .rises i (omega (arith, many volts amps say)))))
 
     pub curve-fits : curveFits c ≡ true
     unfolding curveFits

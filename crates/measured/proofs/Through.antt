@@ -134,7 +134,7 @@ module _ (volts amps : List ℤ) (say : PairsSay volts amps) where
     count-is : d .count ≡ c .count
     count-is = omega (arith, t .many, many)
 
-    -- the slope after the pairs up to which they agree is the quotient, since one less than the largest passes nothing and one more does
+    -- the slope after the pairs up to which they agree is the quotient: it passes nothing, and one more does
     next-agrees : (n : ℕ) → n < d .count → ((j : ℕ) → j < n → getD (d .slopes) (suc j) 0 ≡ slopeAt volts amps (suc j)) → getD (d .slopes) (suc n) 0 ≡ slopeAt volts amps (suc n)
     unfolding slopeAt
     next-agrees n h before =

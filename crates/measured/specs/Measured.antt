@@ -15,7 +15,7 @@ use Rattle.measured.specs.declared.drawing.Ending.{Ending}
 use Rattle.measured.specs.declared.drawing.Ending.the-variants.{Drawn, Pairs, Slope}
 use Rattle.measured.specs.declared.drawing.Measured.{Measured}
 
--- how many pairs a list has, and how large a current is
+-- how many pairs a list may have, and how large a current may be
 abbrev pub fewestPairs : ℕ
 fewestPairs = 2
 
@@ -61,15 +61,19 @@ widthAfter volts j = sizeAt volts (suc j) - sizeAt volts j
 abbrev pub largest : (from to width : ℕ) → ℕ
 largest from to width = (to - from) / width
 
--- the current that the curve has reached at pair j: from one pair to the next it rises by that slope
+-- that from pair j to the next, counted from this current
+abbrev pub slopeFrom : List ℤ → List ℤ → ℕ → ℕ → ℕ
+slopeFrom volts amps from j = largest from (sizeAt amps (suc j)) (widthAfter volts j)
+
+-- the current that the curve has reached at pair j: from one pair to the next it rises by the slope times the width
 unfoldable pub reached : List ℤ → List ℤ → ℕ → ℕ
 reached volts amps zero = 0
-reached volts amps (suc j) = reached volts amps j + largest (reached volts amps j) (sizeAt amps (suc j)) (widthAfter volts j) * widthAfter volts j
+reached volts amps (suc j) = reached volts amps j + slopeFrom volts amps (reached volts amps j) j * widthAfter volts j
 
 -- slope 0 holds below zero volts; the others end at pair 1, pair 2 and so on, and the last goes on
 unfoldable pub slopeAt : List ℤ → List ℤ → ℕ → ℕ
 slopeAt volts amps zero = 0
-slopeAt volts amps (suc j) = largest (reached volts amps j) (sizeAt amps (suc j)) (widthAfter volts j)
+slopeAt volts amps (suc j) = slopeFrom volts amps (reached volts amps j) j
 
 -- the breakpoints are the voltages of all pairs but the last
 unfoldable pub curveOf : List ℤ → List ℤ → Curve
@@ -80,8 +84,11 @@ curveOf volts amps = record {
 }
 
 -- 13: no slope is too large
+abbrev pub slopeSmall : List ℤ → List ℤ → ℕ → Bool
+slopeSmall volts amps j = leb (slopeAt volts amps j) conductanceLimit
+
 unfoldable pub slopesFit : List ℤ → List ℤ → Bool
-slopesFit volts amps = every (λ (j : ℕ). leb (slopeAt volts amps j) conductanceLimit) (length volts)
+slopesFit volts amps = every (slopeSmall volts amps) (length volts)
 
 -- ---- the answer
 

@@ -39,7 +39,7 @@ pub fn number(ending: Ending) -> u64
     }
 }
 
-// A refusal.
+// This ending with a curve of zeros.
 pub fn refused(ending: Ending) -> Measured
     ensures { λ r. ⌜ r ≡ refused ending ⌝ }
 {

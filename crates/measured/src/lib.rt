@@ -8,3 +8,4 @@ pub use drawing::Measured;
 pub use drawing::curve;
 pub use drawing::number;
 pub use drawing::refused;
+pub use pairs::MOST;

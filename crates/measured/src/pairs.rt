@@ -9,7 +9,8 @@ ghost use Rattle.measured.specs.Measured.{follows, countFits, pairsFit};
 
 const FEWEST: usize = 2;
 
-const MOST: usize = 17;
+// More pairs than these make no curve.
+pub const MOST: usize = 17;
 
 // The greatest voltage, in microvolts, and the greatest current, in femtoamperes.
 const VOLTAGE: i64 = 67108864;

@@ -5,14 +5,14 @@
 -- For example `omega (signs, add-law a c, add-law b d)` proves `(a +ℤ c) ≤ℤ (b +ℤ d)` from `a ≤ℤ b` and `c ≤ℤ d`. Assumes nothing.
 use mathlib.Core.Path.{_≡_, refl, sym, _∙_, ap, subst}
 use mathlib.Core.Bool.{Bool, true, false, cond}
-use mathlib.Core.Logic.{_⊎_, inl, inr, ⊎-elim, _↔_}
+use mathlib.Core.Logic.{_⊎_, inl, inr, ⊎-elim}
 use Prim.Native.Nat.{ℕ, zero, suc, _+_, _*_, _-_, _≤_, _<_, min, max}
 use native.Mathlib.Omega.{arith}
-use native.Mathlib.Nat.{mul-zero, zero-mul, mul-add, mul-le-mul-left}
+use native.Mathlib.Nat.{mul-zero, mul-le-mul-left}
 use lib.Dec.{leb, ltb, leb→le, le→leb, ltb→lt, lt→ltb, nleb→lt}
-use borrow.Author.Tests.{ltb-true, ltb-false}
 use lib.IntN.{ℤ, pos, negsuc, negℤ, natAbs, subℕ, _+ℤ_, _-ℤ_, _*ℤ_}
 use lib.Signed.{_≤ℤ_, _<ℤ_, leZ, ltZ}
+use borrow.Author.Tests.{ltb-true, ltb-false}
 use Rattle.units.specs.Integer.{up, dn, lower, higher}
 
 -- ---- a signed number as the difference of two naturals, one of which is 0
@@ -204,6 +204,13 @@ leZ-false a b e = ⊎-elim {C = b <ℤ a} (λ (h : a ≤ℤ b). absurd (rw e at 
 
 pub ltZ-true : (a b : ℤ) → ltZ a b ≡ true → a <ℤ b
 ltZ-true a b e = record { lt = rw e tt }
+
+pub ltZ-holds : (a b : ℤ) → a <ℤ b → ltZ a b ≡ true
+ltZ-holds a b h = go (ltZ a b) refl
+  where
+    go : (t : Bool) → ltZ a b ≡ t → t ≡ true
+    go true e = refl
+    go false e = absurd (rw e at (h .lt))
 
 pub ltZ-false : (a b : ℤ) → ltZ a b ≡ false → b ≤ℤ a
 ltZ-false a b e = ⊎-elim {C = b ≤ℤ a} (λ (h : b ≤ℤ a). h) (λ (h : a <ℤ b). absurd (rw e at (h .lt))) (decide b a)

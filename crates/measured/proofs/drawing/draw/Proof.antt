@@ -12,16 +12,16 @@ use Rattle.units.proofs.Tables.{padded-more}
 use Rattle.units.proofs.Every.{every-more}
 use Rattle.units.specs.Table.{padded, every}
 use Rattle.network.specs.Network.{reading, conductanceLimit}
-use Rattle.measured.specs.Measured.{sizeAt, currentLimit, slopeAt, curveOf}
+use Rattle.measured.specs.Measured.{sizeAt, currentLimit, slopeAt, slopeSmall, curveOf}
 use Rattle.measured.proofs.PairLaws.{PairsSay, pairs-say, wider, no-less, volt-small, reached-more, reached-most}
-use Rattle.measured.proofs.DrawingLaws.{slopeFits, first-slope, first-fits, reached-none, all-drawn, one-steep, way-small}
+use Rattle.measured.proofs.DrawingLaws.{first-slope, first-fits, reached-none, all-drawn, one-steep, way-small}
 use Rattle.measured.specs.Measured as definition
 use Rattle.measured.proofs.drawing.draw.Statement.{statement}
 use Rattle.measured.proofs.drawing.draw.Tie as tie
 
 abbrev Inv-loop : tie.InvT-loop
 Inv-loop voltages currents last slopes₀ reached₀ j₀ slopes reached j =
-    (j ≤ last) × (slopes ≡ padded 0 17 (slopeAt voltages currents) (j + 1)) × (reached ≡ definition.reached voltages currents j) × (every (slopeFits voltages currents) (j + 1) ≡ true)
+    (j ≤ last) × (slopes ≡ padded 0 17 (slopeAt voltages currents) (j + 1)) × (reached ≡ definition.reached voltages currents j) × (every (slopeSmall voltages currents) (j + 1) ≡ true)
 
 abbrev μ-loop : tie.MeasureT-loop
 μ-loop voltages currents last slopes₀ reached₀ j₀ slopes reached j = last - j
@@ -138,7 +138,7 @@ loop-again c =
       omega (arith, there (c .before)),
       rw (l .inv .1) (padded-more 0 17 (slopeAt volts amps) (l .j + 1) _ (omega (arith, there (c .before), says (c .before .before .before .before .before .before .before) .few)) (rw next found)),
       rw (next, l .inv .2, found, c .before .before .before .before .width-after .ensures) (sym (reached-more volts amps (l .j))),
-      every-more (slopeFits volts amps) (l .j + 1) (l .inv .3) (rw (next, ← found) (le-leb _ conductanceLimit (c .if1 .left))),
+      every-more (slopeSmall volts amps) (l .j + 1) (l .inv .3) (rw (next, ← found) (le-leb _ conductanceLimit (c .if1 .left))),
     )
 
 breakpoints-requires : tie.Need-breakpoints-requires Inv-loop μ-loop
