@@ -15,7 +15,7 @@ use Rattle.image.specs.Format.{Opening, opened, refused}
 use Rattle.image.specs.Meaning.{networkAt}
 use Rattle.image.specs.Setting.{plain}
 use Rattle.image.specs.declared.parts.Parts.{Parts}
-use Rattle.console.specs.Text.{decimal, lineEnd, refusedWord, Adds}
+use Rattle.console.specs.Text.{decimal, lineEnd, refusedLine, Adds}
 
 -- a number, and a space after it
 abbrev pub column : ℕ → List ℕ
@@ -50,7 +50,7 @@ pub record Report (N : Network) (before : List ℕ) (r : ℕ) (after : List ℕ)
 
 -- the number by which an image is refused, likewise
 abbrev pub Refusal : Number → List ℕ → ℕ → List ℕ → Type 0
-Refusal number = Adds (refusedWord ++ (decimal (numberOf number) ++ lineEnd)) 4096 0
+Refusal number = Adds (refusedLine (numberOf number)) 4096 0
 
 -- of an opened image, by whether rule 6 holds: the report on its network, or that rule's number
 abbrev pub ReportOn : Parts → Bool → List ℕ → ℕ → List ℕ → Type 0

@@ -97,9 +97,7 @@ fn put_refused(text: &mut [u8], number: Number) -> usize
     requires { ⌜ 4096 ≤ length (now text) ⌝ }
     ensures { λ r. ⌜ Refusal number (now (text .entry)) r (now (text .exit)) × (r ≤ 4096) ⌝ }
 {
-    let at = text::put_word(text, 0, b"refused ");
-    let end = text::put_decimal(text, at, number::value(number));
-    text::put_word(text, end, b"\n")
+    text::put_refused(text, number::value(number))
 }
 
 // The report on an opened image, or rule 6's number: reading alone does not ask it.

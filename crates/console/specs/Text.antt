@@ -36,6 +36,10 @@ line z = number z ++ lineEnd
 abbrev pub refusedWord : List ℕ
 refusedWord = 114 ∷ 101 ∷ 102 ∷ 117 ∷ 115 ∷ 101 ∷ 100 ∷ 32 ∷ []
 
+-- a refusal by its number, as a line
+abbrev pub refusedLine : ℕ → List ℕ
+refusedLine n = refusedWord ++ (decimal n ++ lineEnd)
+
 -- a text was added to a buffer: it stands from `at` on, r is where it ends, and every other byte is as it was. It has at most so many bytes, which follows and is there for callers
 pub record Adds (text : List ℕ) (most at : ℕ) (before : List ℕ) (r : ℕ) (after : List ℕ) : Type 0 where
   pub short : length text ≤ most

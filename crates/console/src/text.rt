@@ -3,7 +3,7 @@
 use units::signed;
 ghost use Prim.Native.Nat.{_+_, _≤_};
 ghost use lib.ListN.{length};
-ghost use Rattle.console.specs.Text.{decimal, sign, number, line, Adds};
+ghost use Rattle.console.specs.Text.{decimal, sign, number, line, refusedLine, Adds};
 
 // A word as it stands.
 pub fn put_word(text: &mut [u8], at: usize, word: &[u8]) -> usize
@@ -55,4 +55,14 @@ pub fn put_line(text: &mut [u8], at: usize, z: i64) -> usize
 {
     let end = put_number(text, at, z);
     put_word(text, end, b"\n")
+}
+
+// `refused R`, as a line at the start of `text`.
+pub fn put_refused(text: &mut [u8], number: u64) -> usize
+    requires { ⌜ 29 ≤ length (now text) ⌝ }
+    ensures { λ r. ⌜ Adds (refusedLine number) 29 0 (now (text .entry)) r (now (text .exit)) ⌝ }
+{
+    let at = put_word(text, 0, b"refused ");
+    let after = put_decimal(text, at, number);
+    put_word(text, after, b"\n")
 }

@@ -26,7 +26,7 @@ broken-tells r e more = rw e
 -- nothing was read yet
 pub start-tells : (r : Kept) → r .whole ≡ true → r .count ≡ 0 → (more : Told) → toldWith r more ≡ more
 unfolding toldWith
-start-tells r e n (told W J) = rw (e, n)
+start-tells r e n (told volts amps) = rw (e, n)
 start-tells r e n broken = rw e
 
 -- all lines were read

@@ -18,7 +18,7 @@ pub record Sized (kept : Kept) : Type 0 where
 
 -- pairs before those that are told
 abbrev pub before : List ℤ → List ℤ → Told → Told
-before volts amps (told W J) = told (volts ++ W) (amps ++ J)
+before volts amps (told moreVolts moreAmps) = told (volts ++ moreVolts) (amps ++ moreAmps)
 before volts amps broken = broken
 
 -- what is told in all, where the pairs so far were these and the lines after them tell more

@@ -6,7 +6,7 @@ use lib.IntN.{ℤ, pos}
 use lib.ListN.{getD}
 use Rattle.network.specs.Network.{reading}
 use Rattle.image.specs.declared.parts.Curve.{Curve}
-use Rattle.console.specs.Text.{decimal, number, lineEnd, refusedWord}
+use Rattle.console.specs.Text.{number, lineEnd, refusedLine}
 use Rattle.measured.specs.Measured.{numberOf}
 use Rattle.measured.specs.declared.drawing.Ending.{Ending}
 use Rattle.measured.specs.declared.drawing.Ending.the-variants.{Drawn, Pairs, Slope}
@@ -39,13 +39,10 @@ slopesLine c = slopesWord ++ (columns (slopeNumber (c .slopes)) (suc (c .count))
 abbrev pub breakpointsLine : Curve → List ℕ
 breakpointsLine c = breakpointsWord ++ (columns (reading (c .breakpoints)) (c .count) ++ lineEnd)
 
-abbrev pub refusedLine : Ending → List ℕ
-refusedLine ending = refusedWord ++ (decimal (numberOf ending) ++ lineEnd)
-
 abbrev pub reportOn : Ending → Curve → List ℕ
 reportOn Drawn c = slopesLine c ++ breakpointsLine c
-reportOn Pairs c = refusedLine Pairs
-reportOn Slope c = refusedLine Slope
+reportOn Pairs c = refusedLine (numberOf Pairs)
+reportOn Slope c = refusedLine (numberOf Slope)
 
 unfoldable pub report : Measured → List ℕ
 report m = reportOn (m .ending) (m .curve)

@@ -6,7 +6,6 @@ use console::words::Run;
 use measured::Ending;
 use measured::Measured;
 ghost use mathlib.Core.Path.{_≡_};
-ghost use mathlib.Core.Bool.{false};
 ghost use mathlib.Core.List.{[]};
 ghost use Prim.Native.Nat.{_≤_};
 ghost use lib.ListN.{length};
@@ -26,12 +25,12 @@ struct Kept {
 // The longest text that is read, in bytes.
 const LONGEST: usize = 65535;
 
-// What is kept once it is whole no more.
-fn broken() -> Kept
-    ensures { λ r. ⌜ (r .whole ≡ false) × Sized r ⌝ }
+// No pairs: before the first line, or once they are whole no more.
+fn none(whole: bool) -> Kept
+    ensures { λ r. ⌜ (r .whole ≡ whole) × (r .count ≡ 0) × Sized r ⌝ }
 {
     Kept {
-        whole: false,
+        whole,
         count: 0,
         voltages: [0; 17],
         currents: [0; 17],
@@ -45,7 +44,7 @@ fn one_more(kept: Kept, voltage: i64, current: i64) -> Kept
 {
     let n = kept.count;
     if measured::MOST <= n {
-        return broken();
+        return none(false);
     }
     let mut voltages = kept.voltages;
     let mut currents = kept.currents;
@@ -67,7 +66,7 @@ fn read_line(kept: Kept, line: &[u8]) -> Kept
     match line::read(line) {
         Line::Empty => kept,
         Line::Pair(voltage, current) => one_more(kept, voltage, current),
-        Line::Other => broken(),
+        Line::Other => none(false),
     }
 }
 
@@ -76,12 +75,7 @@ fn read(text: &[u8]) -> Kept
     requires { ⌜ length (now text) ≤ longestText ⌝ }
     ensures { λ r. ⌜ (answer (toldWith r (told [] [])) ≡ answer (toldBy (lines (now (text .entry))))) × Sized r ⌝ }
 {
-    let mut kept = Kept {
-        whole: true,
-        count: 0,
-        voltages: [0; 17],
-        currents: [0; 17],
-    };
+    let mut kept = none(true);
     let mut at: usize = 0;
     while at < text.len() {
         let rest = &text[at..];

@@ -10,9 +10,10 @@ ghost use Prim.Native.Nat.{suc, _+_, _≤_};
 ghost use lib.IntN.{pos};
 ghost use lib.ListN.{length};
 ghost use Rattle.network.specs.Network.{reading, breakpointCountLimit};
-ghost use Rattle.console.specs.Text.{Adds};
+ghost use Rattle.console.specs.Text.{refusedLine, Adds};
+ghost use Rattle.measured.specs.Measured.{numberOf};
 ghost use Rattle.curve.specs.Text.{curveOf};
-ghost use Rattle.curve.specs.Report.{column, columns, slopeNumber, slopesLine, breakpointsLine, refusedLine, report};
+ghost use Rattle.curve.specs.Report.{column, columns, slopeNumber, slopesLine, breakpointsLine, report};
 
 // A space and a number.
 fn put_column(text: &mut [u8], at: usize, z: i64) -> usize
@@ -77,11 +78,9 @@ fn put_curve(text: &mut [u8], curve: Curve) -> usize
 // `refused R`, at the start of `text`.
 fn put_refused(text: &mut [u8], ending: Ending) -> usize
     requires { ⌜ 4096 ≤ length (now text) ⌝ }
-    ensures { λ r. ⌜ Adds (refusedLine ending) 4096 0 (now (text .entry)) r (now (text .exit)) ⌝ }
+    ensures { λ r. ⌜ Adds (refusedLine (numberOf ending)) 4096 0 (now (text .entry)) r (now (text .exit)) ⌝ }
 {
-    let at = text::put_word(text, 0, b"refused ");
-    let end = text::put_decimal(text, at, measured::number(ending));
-    text::put_word(text, end, b"\n")
+    text::put_refused(text, measured::number(ending))
 }
 
 // The lines of a measured list, at the start of `text`. Where they end.

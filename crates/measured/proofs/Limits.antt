@@ -44,7 +44,7 @@ module _ (volts amps : List ℤ) (say : PairsSay volts amps) where
     rising : every (rises (c .breakpoints)) (c .count - 1) ≡ true
     rising =
         every-each (rises (c .breakpoints)) (c .count - 1)
-        (λ i h. rw (add-one i, breakpoint-at volts amps say i (omega arith), breakpoint-at volts amps say (suc i) (omega arith)) (ltZ-holds (reading volts i) (reading volts (suc i)) (say .rises i (omega (arith, many volts amps say)))))
+        (λ i h. rw (add-one i, breakpoint-at volts amps say i (omega arith), breakpoint-at volts amps say (suc i) (omega arith)) (ltZ-holds (reading volts i) (reading volts (suc i)) (say .next i (omega (arith, many volts amps say)) .rises)))
 
     pub curve-fits : curveFits c ≡ true
     unfolding curveFits

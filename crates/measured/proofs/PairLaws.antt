@@ -19,19 +19,8 @@ use Rattle.measured.specs.Measured.{fewestPairs, mostPairs, currentLimit
 
 -- ---- the rules, one by one
 
-pub record PairsSay (volts amps : List ℤ) : Type 0 where
-  pub same : length volts ≡ length amps
-  pub some : fewestPairs ≤ length volts
-  pub few : length volts ≤ mostPairs
-  pub zero-volts : sizeAt volts 0 ≡ 0
-  pub no-current : sizeAt amps 0 ≡ 0
-  pub rises : (j : ℕ) → suc j < length volts → reading volts j <ℤ reading volts (suc j)
-  pub voltage : (j : ℕ) → suc j < length volts → reading volts (suc j) ≤ℤ pos breakpointLimit
-  pub stays : (j : ℕ) → suc j < length volts → reading amps j ≤ℤ reading amps (suc j)
-  pub current : (j : ℕ) → suc j < length volts → reading amps (suc j) ≤ℤ pos currentLimit
-
 -- what it says that a pair follows another
-record FollowsSay (volts amps : List ℤ) (j : ℕ) : Type 0 where
+pub record FollowsSay (volts amps : List ℤ) (j : ℕ) : Type 0 where
   pub rises : reading volts j <ℤ reading volts (suc j)
   pub voltage : reading volts (suc j) ≤ℤ pos breakpointLimit
   pub stays : reading amps j ≤ℤ reading amps (suc j)
@@ -45,6 +34,15 @@ follows-say volts amps j e =
     let c = both {a = ltZ (reading volts j) (reading volts (suc j))} {b = leZ (reading volts (suc j)) (pos breakpointLimit)} (b .0) in
     record { rises = ltZ-true _ _ (c .0); voltage = leZ-true _ _ (c .1); stays = leZ-true _ _ (b .1); current = leZ-true _ _ (a .1) }
 
+-- and that a list keeps the rules
+pub record PairsSay (volts amps : List ℤ) : Type 0 where
+  pub same : length volts ≡ length amps
+  pub some : fewestPairs ≤ length volts
+  pub few : length volts ≤ mostPairs
+  pub zero-volts : sizeAt volts 0 ≡ 0
+  pub no-current : sizeAt amps 0 ≡ 0
+  pub next : (j : ℕ) → suc j < length volts → FollowsSay volts amps j
+
 pub pairs-say : (volts amps : List ℤ) → pairsFit volts amps ≡ true → PairsSay volts amps
 unfolding pairsFit
 pairs-say volts amps e =
@@ -53,17 +51,13 @@ pairs-say volts amps e =
     let c = both {b = eqb (sizeAt volts 0) 0} (b .0) in
     let d = both {a = eqb (length volts) (length amps)} {b = between fewestPairs mostPairs (length volts)} (c .0) in
     let count = between-says fewestPairs mostPairs (length volts) (d .1) in
-    let each : (j : ℕ) → suc j < length volts → FollowsSay volts amps j = λ j h. follows-say volts amps j (every-says (follows volts amps) (length volts - 1) j (a .1) (omega arith)) in
     record {
       same = eqb-true (length volts) (length amps) (d .0);
       some = count .0;
       few = count .1;
       zero-volts = eqb-true (sizeAt volts 0) 0 (c .1);
       no-current = eqb-true (sizeAt amps 0) 0 (b .1);
-      rises = λ j h. each j h .rises;
-      voltage = λ j h. each j h .voltage;
-      stays = λ j h. each j h .stays;
-      current = λ j h. each j h .current;
+      next = λ j h. follows-say volts amps j (every-says (follows volts amps) (length volts - 1) j (a .1) (omega arith));
     }
 
 -- ---- no number of such a list is below zero
@@ -84,16 +78,16 @@ reached-more volts amps j = refl
 
 module _ (volts amps : List ℤ) (say : PairsSay volts amps) where
   pub volt-size : (j : ℕ) → j < length volts → reading volts j ≡ pos (sizeAt volts j)
-  volt-size = climbs volts (length volts) (say .zero-volts) (λ j h. omega (signs, say .rises j h))
+  volt-size = climbs volts (length volts) (say .zero-volts) (λ j h. omega (signs, say .next j h .rises))
 
   pub amp-size : (j : ℕ) → j < length volts → reading amps j ≡ pos (sizeAt amps j)
-  amp-size = climbs amps (length volts) (say .no-current) (say .stays)
+  amp-size = climbs amps (length volts) (say .no-current) (λ j h. say .next j h .stays)
 
   pub wider : (j : ℕ) → suc j < length volts → sizeAt volts j < sizeAt volts (suc j)
-  wider j h = omega (signs, say .rises j h, volt-size j (omega arith), volt-size (suc j) h, pos-law (sizeAt volts j), pos-law (sizeAt volts (suc j)))
+  wider j h = omega (signs, say .next j h .rises, volt-size j (omega arith), volt-size (suc j) h, pos-law (sizeAt volts j), pos-law (sizeAt volts (suc j)))
 
   pub no-less : (j : ℕ) → suc j < length volts → sizeAt amps j ≤ sizeAt amps (suc j)
-  no-less j h = omega (signs, say .stays j h, amp-size j (omega arith), amp-size (suc j) h, pos-law (sizeAt amps j), pos-law (sizeAt amps (suc j)))
+  no-less j h = omega (signs, say .next j h .stays, amp-size j (omega arith), amp-size (suc j) h, pos-law (sizeAt amps j), pos-law (sizeAt amps (suc j)))
 
   -- where nothing stands a voltage reads as zero
   pub volt-small : (j : ℕ) → sizeAt volts j ≤ breakpointLimit
@@ -101,11 +95,11 @@ module _ (volts amps : List ℤ) (say : PairsSay volts amps) where
   volt-small (suc j) =
       ⊎-elim
       (λ (l : length volts ≤ suc j). rw (List·getD-eq-default volts (pos 0) l) (omega arith))
-      (λ (l : suc j < length volts). omega (signs, say .voltage j l, volt-size (suc j) l, pos-law (sizeAt volts (suc j)), pos-law breakpointLimit))
+      (λ (l : suc j < length volts). omega (signs, say .next j l .voltage, volt-size (suc j) l, pos-law (sizeAt volts (suc j)), pos-law breakpointLimit))
       (decideN (length volts) (suc j))
 
   pub amp-small : (j : ℕ) → suc j < length volts → sizeAt amps (suc j) ≤ currentLimit
-  amp-small j h = omega (signs, say .current j h, amp-size (suc j) h, pos-law (sizeAt amps (suc j)), pos-law currentLimit)
+  amp-small j h = omega (signs, say .next j h .current, amp-size (suc j) h, pos-law (sizeAt amps (suc j)), pos-law currentLimit)
 
   -- ---- what is reached
 

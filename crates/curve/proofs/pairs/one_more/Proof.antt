@@ -6,13 +6,13 @@ use Rattle.curve.proofs.KeptLaws.{reads-pair, reads-much}
 use Rattle.curve.proofs.pairs.one_more.Statement.{statement}
 use Rattle.curve.proofs.pairs.one_more.Tie as tie
 
-broken-requires : tie.Need-broken-requires
-broken-requires c κs = search needs
+none-requires : tie.Need-none-requires
+none-requires c κs = search needs
 
 returns : tie.Need-returns
 returns c =
     let s = c .before .before in
-    reads-much (s .args .kept) (c .broken .result) (s .args .voltage) (s .args .current) (s .pre) (c .before .if1 .taken) (c .broken .ensures .0) (c .broken .ensures .1)
+    reads-much (s .args .kept) (c .none .result) (s .args .voltage) (s .args .current) (s .pre) (c .before .if1 .taken) (c .none .ensures .0) (c .none .ensures .2)
 
 mul-voltages : tie.Need-mul-voltages
 mul-voltages c = search needs
@@ -40,7 +40,7 @@ pub one-more-spec : {M : Type 1} → statement M
 one-more-spec =
     tie.close
     (tie.spec
-    broken-requires
+    none-requires
     returns
     mul-voltages
     array-set-from-voltages

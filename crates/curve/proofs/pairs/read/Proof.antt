@@ -23,9 +23,13 @@ Inv-loop text kept₀ at₀ kept at =
 abbrev μ-loop : tie.MeasureT-loop
 μ-loop text kept₀ at₀ kept at = length text - at
 
+none-requires : tie.Need-none-requires Inv-loop μ-loop
+none-requires c κs = search needs
+
 loop-holds : tie.Need-loop-holds Inv-loop μ-loop
 loop-holds c =
-    (omega arith, ap answer (start-tells _ refl refl (toldBy (lines (c .before .args .text .now)))), record { count = omega arith; voltages = refl; currents = refl })
+    let made = c .none in
+    (omega arith, ap answer (start-tells (made .result) (made .ensures .0) (made .ensures .1) (toldBy (lines (c .before .before .args .text .now)))), made .ensures .2)
 
 sub-rest : tie.Need-sub-rest Inv-loop μ-loop
 sub-rest c = search needs
@@ -54,7 +58,7 @@ loop-less c = search needs
 loop-again : tie.Need-loop-again Inv-loop μ-loop
 loop-again c =
     let l = c .before .before .before .before .loop in
-    let text = c .before .before .before .before .before .before .args .text .now in
+    let text = c .before .before .before .before .before .before .before .args .text .now in
     let rest = drop (l .at) text in
     let n = lineLength rest in
     let all : take (length text - l .at) rest ≡ rest = take-all (length text - l .at) rest (omega (arith, length-drop (l .at) text)) in
@@ -72,7 +76,7 @@ loop-again c =
 returns : tie.Need-returns Inv-loop μ-loop
 returns c =
     let l = c .before .loop in
-    let text = c .before .before .before .args .text .now in
+    let text = c .before .before .before .before .args .text .now in
     let past : drop (l .at) text ≡ [] = drop-of-length-le text {i = l .at} (c .loop-test .left) in
     (rw (past, told-none) at (l .inv .1), l .inv .2)
 
@@ -82,6 +86,7 @@ read-spec =
     (tie.spec
     Inv-loop
     μ-loop
+    none-requires
     loop-holds
     sub-rest
     part-rest-start

@@ -21,8 +21,8 @@ one-more-requires c κs = search needs
 enum-told-2 : tie.Need-enum-told-2
 enum-told-2 c = search needs
 
-broken-requires : tie.Need-broken-requires
-broken-requires c κs = search needs
+none-requires : tie.Need-none-requires
+none-requires c κs = search needs
 
 returns : tie.Need-returns
 returns c = rw (← (c .before .before .read .ensures), c .enum-told .given .1) (reads-empty (c .before .before .before .before .args .kept) (c .before .before .before .before .pre))
@@ -36,7 +36,7 @@ returns-2 c =
     rw (← (c .before .before .before .before .read .ensures), c .before .before .voltage .given .1) (rw (volt, amp) at (c .one-more .ensures))
 
 returns-3 : tie.Need-returns-3
-returns-3 c = rw (← (c .before .before .before .read .ensures), c .before .enum-told2 .given .1) (reads-other (c .before .before .before .before .before .args .kept) (c .broken .result) (c .broken .ensures .0) (c .broken .ensures .1))
+returns-3 c = rw (← (c .before .before .before .read .ensures), c .before .enum-told2 .given .1) (reads-other (c .before .before .before .before .before .args .kept) (c .none .result) (c .none .ensures .0) (c .none .ensures .2))
 
 pub read-line-spec : {M : Type 1} → statement M
 read-line-spec =
@@ -47,7 +47,7 @@ read-line-spec =
     enum-known-voltage
     one-more-requires
     enum-told-2
-    broken-requires
+    none-requires
     returns
     returns-2
     returns-3)

@@ -1,44 +1,20 @@
 use native.Mathlib.Omega.{arith}
 use borrow.Author.Needs.{needs}
-use Rattle.console.proofs.TextLaws.{adds-then, adds-within}
+use Rattle.console.proofs.TextLaws.{adds-within}
 use Rattle.curve.proofs.report.put_refused.Statement.{statement}
 use Rattle.curve.proofs.report.put_refused.Tie as tie
-
-slice-aggregate-put-word : tie.Need-slice-aggregate-put-word
-slice-aggregate-put-word c = search needs
-
-put-word-requires : tie.Need-put-word-requires
-put-word-requires c κs = search needs
 
 number-requires : tie.Need-number-requires
 number-requires c κs = search needs
 
-put-decimal-requires : tie.Need-put-decimal-requires
-put-decimal-requires c κs = search needs
-
-slice-aggregate-put-word-2 : tie.Need-slice-aggregate-put-word-2
-slice-aggregate-put-word-2 c = search needs
-
-put-word-requires-2 : tie.Need-put-word-requires-2
-put-word-requires-2 c κs = search needs
+put-refused-requires : tie.Need-put-refused-requires
+put-refused-requires c κs = search needs
 
 same-length : tie.Need-same-length
 same-length c = search needs
 
 returns : tie.Need-returns
-returns c =
-    let digits = rw (c .before .before .before .before .before .before .before .before .number .ensures) at (c .before .before .before .before .before .before .before .put-decimal .ensures) in
-    adds-within (omega arith) (adds-then (c .before .before .before .before .before .before .before .before .before .before .before .before .put-word .ensures) (adds-then digits (c .before .before .put-word2 .ensures)))
+returns c = adds-within (omega arith) (rw (c .before .before .before .number .ensures) at (c .before .before .put-refused .ensures))
 
 pub put-refused-spec : {M : Type 1} → statement M
-put-refused-spec =
-    tie.close
-    (tie.spec
-    slice-aggregate-put-word
-    put-word-requires
-    number-requires
-    put-decimal-requires
-    slice-aggregate-put-word-2
-    put-word-requires-2
-    same-length
-    returns)
+put-refused-spec = tie.close (tie.spec number-requires put-refused-requires same-length returns)
