@@ -1,7 +1,8 @@
-// Runs the conversions and the byte readers of `units` at the places where they could go wrong, and
-// writes what comes of each; the file `stdout` has what should.
+// Runs the conversions, quotients and byte readers of `units` at the places where they could go wrong,
+// and writes what comes of each; the file `stdout` has what should.
 use libc::STDOUT_FILENO;
 use units::bytes;
+use units::ratio;
 use units::signed;
 use units::voltage::Nearest;
 use units::voltage::Voltage;
@@ -121,6 +122,16 @@ fn stores(z: i64) {
     text(b"\n");
 }
 
+// The whole number nearest to a / b.
+fn quotient(a: u64, b: u64) {
+    io::print_decimal(STDOUT_FILENO, a);
+    text(b" / ");
+    io::print_decimal(STDOUT_FILENO, b);
+    text(b" is nearest to ");
+    io::print_decimal(STDOUT_FILENO, ratio::nearest(a, b));
+    text(b"\n");
+}
+
 fn near_zero() {
     either(b"0", 0.0);
     either(b"0.25", 0.25);
@@ -181,6 +192,26 @@ fn writes() {
     stores(-33554432);
 }
 
+// Halves and what lies beside them, nothing to divide by, and numbers whose doubles are too long.
+fn quotients() {
+    quotient(1000000000, 1500);
+    quotient(1000000000, 1023);
+    quotient(1000000000, 1024);
+    quotient(1000000000, 1025);
+    quotient(1000000000, 2000000000);
+    quotient(1000000000, 2000000001);
+    quotient(500000000000000, 819200);
+    quotient(249, 500);
+    quotient(250, 500);
+    quotient(0, 1);
+    quotient(7, 0);
+    quotient(18446744073709551615, 1);
+    quotient(18446744073709551615, 2);
+    quotient(9223372036854775807, 18446744073709551615);
+    quotient(9223372036854775808, 18446744073709551615);
+    quotient(18446744073709551615, 18446744073709551615);
+}
+
 fn main() {
     near_zero();
     near_the_limit();
@@ -189,4 +220,5 @@ fn main() {
     limits();
     reads();
     writes();
+    quotients();
 }

@@ -7,7 +7,8 @@ use lib.IntN.{ℤ, natAbs}
 use lib.Ieee.{Float, nan, inf, fin, up, down}
 use borrow.Author.Tests.{leb-true}
 use Rattle.units.specs.Voltage.{within, voltageLimit, InRange}
-use Rattle.units.specs.Float.{nearestVoltage, nearestRatio, signed, rounded}
+use Rattle.units.specs.Ratio.{nearestRatio}
+use Rattle.units.specs.Float.{nearestVoltage, signed, rounded}
 use Rattle.units.specs.declared.voltage.Voltage.{Voltage}
 use Rattle.units.specs.declared.voltage.Nearest.the-variants.{At, Nothing}
 

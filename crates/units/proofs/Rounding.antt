@@ -1,11 +1,10 @@
--- From a float to the nearest voltage: what `nearest_size` asks and gives, what the tests of `from_f64` say, that the
--- nearest is the nearest, and that every voltage in range comes back. Assumes nothing.
-use mathlib.Core.Path.{_≡_, refl, sym, ap, _∙_}
+-- From a float to the nearest voltage: what `nearest_size` asks and gives, what the tests of `from_f64` say, and that every voltage in
+-- range comes back. Assumes nothing.
+use mathlib.Core.Path.{_≡_, refl, ap}
 use mathlib.Core.Bool.{Bool, true, false, _&&_, true≢false, false≢true}
-use mathlib.Core.Logic.{_↔_}
 use Prim.Native.Nat.{ℕ, zero, suc, _+_, _*_, _-_, _/_, _^_, _≤_, _<_, min}
 use native.Mathlib.Omega.{arith}
-use native.Mathlib.Nat.{mul-one, one-mul, mul-comm, mul-assoc, mul-left-comm, mul-right-comm, mul-pos, add-mul, mul-add, mul-lt-mul-of-pos-right, div-eq-of-lt, div-eq-of-lt-le, div-lt-iff-lt-mul, le-div-iff-mul-le, lt-of-mul-lt-mul-right, mul-div-le, lt-mul-div-succ}
+use native.Mathlib.Nat.{mul-comm, mul-assoc, mul-left-comm, mul-pos, mul-lt-mul-of-pos-right, div-eq-of-lt, div-lt-iff-lt-mul, le-div-iff-mul-le, lt-of-mul-lt-mul-right}
 use lib.IntN.{ℤ, pos, negsuc, negℤ, natAbs}
 use lib.Dec.{T, ltb, lt→ltb}
 use borrow.Author.Tests.{ltb-true, ltb-false, eqb-true, lt-leb, le-leb, eq-eqb}
@@ -14,29 +13,13 @@ use lib.Ieee.Exact.{HasValue}
 use lib.Ieee.Back.{round-whole}
 use lib.Ieee.Fits.{down-pos}
 use Rattle.units.specs.Voltage.{voltageLimit, InRange}
-use Rattle.units.specs.Float.{Exactly, nearestRatio, signed, rounded, nearestVoltage, Positive, nearestSize}
+use Rattle.units.specs.Ratio.{nearestRatio}
+use Rattle.units.specs.Float.{Exactly, signed, rounded, nearestVoltage, Positive, nearestSize}
 use Rattle.units.specs.declared.voltage.Nearest.{Nearest}
 use Rattle.units.specs.declared.voltage.Nearest.the-variants.{At, Nothing}
+use Rattle.units.proofs.RatioLaws.{nearest-says}
 use Rattle.units.proofs.Sizes.{abs-neg}
 use Rattle.units.proofs.Doubling.{twice-exact, halved}
-
--- ---- the nearest whole number is the nearest: n - 1/2 ≤ a / b < n + 1/2
-
-pub nearest-says : (a b n : ℕ) → 0 < b → (nearestRatio a b ≡ n) ↔ ((n * 2 * b ≤ a * 2 + b) × (a * 2 < (n * 2 + 1) * b))
-nearest-says a b n p = (says, is)
-  where
-    -- n b in each product
-    spread : (n * 2 * b ≡ n * b * 2) × (b * 2 * n ≡ n * b * 2) × (n * (b * 2) ≡ n * b * 2)
-    spread = (mul-right-comm n 2 b, simp (mul-assoc, mul-comm, mul-left-comm), sym (mul-assoc n b 2))
-
-    says : nearestRatio a b ≡ n → (n * 2 * b ≤ a * 2 + b) × (a * 2 < (n * 2 + 1) * b)
-    says e =
-        let low : b * 2 * n ≤ a * 2 + b = rw e at (mul-div-le (a * 2 + b) (b * 2)) in
-        let high : a * 2 + b < b * 2 * (n + 1) = rw e at (lt-mul-div-succ (a * 2 + b) {b = b * 2} (omega arith)) in
-        (omega (arith, spread), omega (arith, spread, mul-add (b * 2) n 1, add-mul (n * 2) 1 b))
-
-    is : (n * 2 * b ≤ a * 2 + b) × (a * 2 < (n * 2 + 1) * b) → nearestRatio a b ≡ n
-    is h = div-eq-of-lt-le (b * 2) (omega (arith, spread)) (omega (arith, spread, add-mul n 1 (b * 2), add-mul (n * 2) 1 b))
 
 -- ---- what `nearest_size` asks and gives
 
@@ -193,7 +176,7 @@ unfolding nearestVoltage
 back nan s n b h = absurd h
 back (inf t) s n b h = absurd h
 back (fin t m e) s n b h =
-    rw (h .0, nearest-says (m * up e) (down e) n (down-pos e) .1 (omega (arith, h .1, down-pos e, mul-right-comm n 2 (down e), add-mul (n * 2) 1 (down e)))) (kept s)
+    rw (h .0, nearest-says (m * up e) (down e) n (down-pos e) .1 (record { near = omega (arith, h .1); upper = λ half. omega (arith, h .1) })) (kept s)
   where
     kept : (s : Bool) → rounded (signed s n) ≡ At (record { microvolts = signed s n })
     kept true = rw (abs-neg (pos n), le-leb n voltageLimit b)

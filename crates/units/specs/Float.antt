@@ -2,10 +2,11 @@
 -- numerator and denominator. Assumes nothing.
 use mathlib.Core.Path.{_≡_}
 use mathlib.Core.Bool.{Bool, true, false, cond}
-use Prim.Native.Nat.{ℕ, suc, _+_, _*_, _/_, _^_, _<_}
+use Prim.Native.Nat.{ℕ, suc, _*_, _^_, _<_}
 use lib.IntN.{ℤ, pos, negsuc, negℤ}
 use lib.Ieee.{Float, nan, inf, fin, binary64, up, down, ofInt}
 use lib.Ieee.Exact.{HasValue}
+use Rattle.units.specs.Ratio.{nearestRatio}
 use Rattle.units.specs.Voltage.{within, voltageLimit, InRange}
 use Rattle.units.specs.declared.voltage.Nearest.{Nearest}
 use Rattle.units.specs.declared.voltage.Nearest.the-variants.{At, Nothing}
@@ -19,10 +20,6 @@ Exactly x (negsuc n) = HasValue x true (suc n) 1
 pub record Converted (z : ℤ) (x : Float) : Type 0 where
   pub nearest : x ≡ ofInt binary64 z
   pub exact : InRange z → Exactly x z
-
--- a / b to the nearest whole number, halves upward: the whole part of a / b + 1 / 2
-abbrev pub nearestRatio : ℕ → ℕ → ℕ
-nearestRatio a b = (a * 2 + b) / (b * 2)
 
 abbrev pub signed : Bool → ℕ → ℤ
 signed true n = negℤ (pos n)
