@@ -1,5 +1,5 @@
 #!/usr/bin/env python3
-"""What crates/bench_circuit has to print, from document 01 alone: python3 model.py CASES.rt > stdout
+"""What crates/bench_circuit has to print, from documents 01 and 02 alone: python3 model.py CASES.rt > stdout
 
 Reads the calls in src/cases.rt in the order in which they stand there, and shares nothing with the proved crates. A curve's current is the
 integral of its slope from zero, summed stretch by stretch; a bound is searched for from a quotient and then tested."""
@@ -31,7 +31,8 @@ class Circuit:
         self.elements = []
         for j in range(elements):
             kind, p, q, k, value = struct.unpack_from('<BBBBI', image, first + 8 * j)
-            g = {1: lambda: 10**9 // value, 2: lambda: 2 * value * rate // 1000, 3: lambda: 10**15 // (2 * value * rate), 4: lambda: None}[kind]()
+            over, under = {1: (10**9, value), 2: (2 * value * rate, 1000), 3: (10**15, 2 * value * rate), 4: (0, 1)}[kind]
+            g = (2 * over + under) // (2 * under)
             assert kind == 4 or 1 <= g <= 2**30
             self.elements.append((kind, p, q, k, g))
 

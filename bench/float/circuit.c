@@ -1,4 +1,4 @@
-/* Image bytes to a circuit. Conductances are cut to whole nanosiemens, so that both simulators play the same circuit. */
+/* Image bytes to a circuit. Conductances are whole nanosiemens, the nearest, halves upward, so that both simulators play the same circuit. */
 #include "circuit.h"
 
 #include <math.h>
@@ -35,9 +35,9 @@ static size_t curve_read(struct curve *curve, const uint8_t *bytes)
 static double conductance(enum kind kind, double value, double rate)
 {
     switch (kind) {
-    case RESISTOR: return floor(1e9 / value);
-    case CAPACITOR: return floor(2 * value * rate / 1000);
-    case INDUCTOR: return floor(1e15 / (2 * value * rate));
+    case RESISTOR: return round(1e9 / value);
+    case CAPACITOR: return round(2 * value * rate / 1000);
+    case INDUCTOR: return round(1e15 / (2 * value * rate));
     default: return 0;
     }
 }

@@ -1,6 +1,6 @@
-/* Holds the proved block against the second program's: random calls on the cases' images, whole and damaged, with states, lengths and
- * drives of all kinds; the answer and every byte of state and outputs must agree. Each buffer is as long as it says and no longer, so
- * that a sanitizer sees any access past it.
+/* Holds the proved block against the second program's: random calls on the cases' images, whole, damaged and with conductances at their
+ * halves, with states, lengths and drives of all kinds; the answer and every byte of state and outputs must agree. Each buffer is as long
+ * as it says and no longer, so that a sanitizer sees any access past it.
  *
  *     compare CALLS IMAGE .. */
 #include <stdio.h>
@@ -97,6 +97,32 @@ static void put(uint8_t *at, uint64_t v, int n)
         at[i] = (uint8_t)(v >> (8 * i));
 }
 
+/* for a resistor, a capacitor and an inductor: a value, and a rate where one is needed, at which its conductance is an odd number of half
+ * nanosiemens, and stays one each time that the value is multiplied by five */
+static const struct {
+    uint64_t value, rate;
+} half[] = {{1024, 0}, {1, 47250}, {1, 32768}};
+
+/* now and then an element at such a half, or one step beside it */
+static void put_half(struct bytes image)
+{
+    if (below(4) || image.length < 24)
+        return;
+    uint8_t *trailer = image.at + image.length - 16;
+    size_t elements = trailer[4];
+    if (elements == 0 || 8 * elements > image.length - 16)
+        return;
+    uint8_t *record = image.at + 8 * below(elements);
+    if (record[0] < 1 || record[0] > 3)
+        return;
+    uint64_t value = half[record[0] - 1].value, rate = half[record[0] - 1].rate;
+    for (uint64_t i = below(10); i; i--)
+        value *= 5;
+    put(record + 4, value + below(3) - 1, 4);
+    if (rate)
+        put(trailer + 8, rate, 4);
+}
+
 /* mostly zero; else small numbers, the limit and numbers past it, or noise */
 static struct bytes some_state(void)
 {
@@ -136,6 +162,7 @@ int main(int argc, char **argv)
     for (unsigned long call = 0; call < calls; call++) {
         struct bytes whole = load(argv[2 + below((uint64_t)images)]);
         struct bytes image = damaged(whole), state = some_state(), drives = some_drives(), outputs = make(some_length(80));
+        put_half(image);
         uint64_t n = below(20) ? below(12) : draw() >> below(64);
         for (size_t i = 0; i < outputs.length; i++)
             outputs.at[i] = (uint8_t)draw();

@@ -77,6 +77,12 @@ impl Dice {
     }
 }
 
+/// Of the whole numbers around a quotient the one that misses it least, and of two that miss it alike the greater.
+fn nearest(over: i64, under: i64) -> i64 {
+    let around = over / under;
+    (around..=around + 1).min_by_key(|&one| ((one * under - over).abs(), -one)).unwrap()
+}
+
 impl Part {
     fn current(&self, volts: i64, stored: i64) -> i64 {
         if self.kind != 4 {
@@ -214,9 +220,9 @@ impl Reference {
             };
             part.value = value as u32;
             part.conductance = match kind {
-                1 => 1_000_000_000 / value,
-                2 => 2 * value * rate / 1000,
-                3 => 1_000_000_000_000_000 / (2 * value * rate),
+                1 => nearest(1_000_000_000, value),
+                2 => nearest(2 * value * rate, 1000),
+                3 => nearest(1_000_000_000_000_000, 2 * value * rate),
                 _ => 0,
             };
             if kind == 4 {

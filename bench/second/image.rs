@@ -116,6 +116,13 @@ fn curve(bytes: &[u8]) -> Result<Curve, u64> {
     if fits { Ok(Curve { slopes, breakpoints }) } else { Err(4) }
 }
 
+/// The whole number nearest to `over / under`: the one below, until the middle between it and the next is reached.
+fn nearest(over: i128, under: i128) -> i128 {
+    let below = over / under;
+    let middle_twice = (2 * below + 1) * under;
+    if 2 * over < middle_twice { below } else { below + 1 }
+}
+
 /// One element from its record, its conductance not yet judged, or 5.
 fn element(bytes: &[u8], trailer: &Trailer) -> Result<Element, u64> {
     let kind = match bytes[0] {
@@ -131,11 +138,10 @@ fn element(bytes: &[u8], trailer: &Trailer) -> Result<Element, u64> {
     if !suits || p == q || p > trailer.nodes || q > trailer.nodes {
         return Err(5);
     }
-    // All three are quotients of positive numbers, so division cuts downward.
     let conductance = match kind {
-        Kind::Resistor => 1_000_000_000 / value,
-        Kind::Capacitor => 2 * value * trailer.rate / 1_000,
-        Kind::Inductor => 1_000_000_000_000_000 / (2 * value * trailer.rate),
+        Kind::Resistor => nearest(1_000_000_000, value),
+        Kind::Capacitor => nearest(2 * value * trailer.rate, 1_000),
+        Kind::Inductor => nearest(1_000_000_000_000_000, 2 * value * trailer.rate),
         Kind::Diode => 0,
     };
     Ok(Element { kind, p, q, curve, conductance })

@@ -5,13 +5,13 @@ use super::show;
 ghost use Prim.Native.Nat.{_<_};
 
 // How many there are.
-const COUNT: usize = 302;
+const COUNT: usize = 317;
 
 // Three numbers to each: what is done, where, and the value.
 //   0  on a new line, a good image: 0 is the example, 1 is mixed, 2 is the largest
 //   1  the number of the image with that byte there, 2 with those four bytes
 //   3  from here on the image has that byte there, 4 those four bytes
-const CASES: [u64; 906] = [
+const CASES: [u64; 951] = [
     // counts of elements 0 1 2 3 32 33 255
     0,
     0,
@@ -747,10 +747,10 @@ const CASES: [u64; 906] = [
     2,
     2,
     4,
-    1000000000,
+    2000000000,
     2,
     4,
-    1000000001,
+    2000000001,
     2,
     4,
     4294967295,
@@ -836,6 +836,55 @@ const CASES: [u64; 906] = [
     2,
     12,
     67108865,
+    // capacitor at 71,111 Hz: 2^30 - 141.7, 2^30 + 0.498, 2^30 + 142.7
+    0,
+    0,
+    1,
+    4,
+    80,
+    71111,
+    2,
+    12,
+    7549758,
+    2,
+    12,
+    7549759,
+    2,
+    12,
+    7549760,
+    // capacitor at 12,436 Hz: 2^30 - 24.4, 2^30 + 0.504
+    0,
+    0,
+    1,
+    4,
+    80,
+    12436,
+    2,
+    12,
+    43170706,
+    2,
+    12,
+    43170707,
+    // inductor at 66,523 Hz: 2^30 + 662, the nearest above the limit
+    0,
+    0,
+    1,
+    4,
+    80,
+    66523,
+    2,
+    20,
+    7,
+    // inductor at 14,111 Hz: 2^30 - 3,949, the nearest below
+    0,
+    0,
+    1,
+    4,
+    80,
+    14111,
+    2,
+    20,
+    33,
     // 2 before 3, 4, 5
     0,
     0,
@@ -861,7 +910,7 @@ const CASES: [u64; 906] = [
     2,
     2,
     4,
-    1000000001,
+    2000000001,
     // 3 before 4, 5
     0,
     0,
@@ -887,7 +936,7 @@ const CASES: [u64; 906] = [
     41,
     2,
     4,
-    1000000001,
+    2000000001,
     // 4 before 5
     0,
     0,
@@ -913,14 +962,14 @@ const CASES: [u64; 906] = [
     1,
     2,
     4,
-    1000000001,
+    2000000001,
     // 5 before 6
     0,
     0,
     1,
     4,
     4,
-    1000000001,
+    2000000001,
     1,
     24,
     5,
@@ -1011,7 +1060,7 @@ fn case(i: Image, what: u64, at: u64, v: u64) -> Image {
 }
 
 fn entry(k: usize) -> u64
-    requires { ⌜ k < 906 ⌝ }
+    requires { ⌜ k < 951 ⌝ }
 {
     CASES[k]
 }

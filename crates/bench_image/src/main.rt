@@ -1,6 +1,6 @@
 // Reads images at the places where the reader could go wrong, and writes what comes of each: the
-// number, or for some the whole circuit. The file `stdout` has what should come, from a model that
-// was written from document 01 and not from this code.
+// number, or for some the whole circuit. The file `stdout` has what should come, from
+// bench/image/model.py, which is written from documents 01 and 02 and not from this code.
 //
 // An image stands in a struct by value, so that another is made from a good one by a call.
 mod build;

@@ -1,8 +1,8 @@
 // Solves a dozen circuits from several proposals and writes, for each, how many samples were accepted,
 // a checksum of all voltages, the last voltages, and whether all proposals agreed. The file `stdout`
-// has what should come, from a model that was written from document 01 and not from this code. Before
-// them come document 01's own cases and refusals, sample by sample; their lines are document 01's numbers
-// and, where it has none, the second program's (bench/second).
+// has what should come, from the second program and not from this code (bench/solve/model.py). Before
+// them come document 01's own cases and refusals, sample by sample, with document 01's numbers where it
+// has them.
 mod document;
 mod play;
 

@@ -1,4 +1,5 @@
--- The images of document 01's proved cases are opened, and mean the networks of network's table of cases. Assumes nothing.
+-- The images of document 01's proved cases are opened, and mean the networks of network's table of cases; and conductances at their halves.
+-- Assumes nothing.
 use mathlib.Core.Path.{_≡_, refl, fun-ext}
 use mathlib.Core.Bool.{true}
 use mathlib.Core.List.{List}
@@ -8,7 +9,7 @@ use borrow.Author.Tests.{le-ltb}
 use Rattle.units.specs.Bytes.{littleEndian}
 use Rattle.units.specs.Table.{tabulate, padded, every}
 use Rattle.image.specs.Parts.{elementOf, curveOf, slopesOf, breakpointsOf, headerFits, curveSizesFit, curveFits, curvesFit, elementFits, elementsFit}
-use Rattle.image.specs.Conductance.{conductanceBy, conductancesFit}
+use Rattle.image.specs.Conductance.{resistorConductance, capacitorConductance, inductorConductance, conductanceBy, conductancesFit}
 use Rattle.image.specs.Setting.{plain}
 use Rattle.image.specs.Curve.{curveIn, startFrom}
 use Rattle.image.specs.Format.{trailerAt, headerAt, elementAt, partsOf, trailerFits, sizesFit, curveBytesFit, opened, openingOf}
@@ -60,3 +61,7 @@ lone-branches (suc j) = rw (le-ltb (suc j) 1 (omega arith))
 pub lone-means : Means lone cases.lone
 unfolding littleEndian every tabulate padded conductanceBy conductancesFit trailerAt headerAt elementAt startFrom curveIn partsOf elementOf curveOf headerFits trailerFits curveSizesFit sizesFit curveFits curvesFit curveBytesFit elementFits elementsFit openingOf lone
 lone-means = record { opening = refl; conductances = refl; network = rw (fun-ext lone-branches) }
+
+-- request 2's resistor, and a half of each kind: 976,562.5, 220.5 and 62.5
+pub nearest-examples : (resistorConductance 1500 ≡ 666667) × (resistorConductance 1024 ≡ 976563) × (capacitorConductance 5 22050 ≡ 221) × (inductorConductance 1000000000 8000 ≡ 63)
+nearest-examples = (refl, refl, refl, refl)

@@ -1,3 +1,4 @@
+pub mod Allowed
 pub mod Curves
 pub mod Examples
 pub mod Opening

@@ -1,7 +1,8 @@
--- The conductance of an element in nanosiemens, a rule for each kind, cut to a whole number downward; and rule 6. Assumes nothing.
+-- The conductance of an element in nanosiemens, a rule for each kind, to the nearest whole number, halves upward; and rule 6. Assumes nothing.
 use mathlib.Core.Bool.{Bool, _||_, cond}
-use Prim.Native.Nat.{ℕ, _*_, _/_, _^_}
+use Prim.Native.Nat.{ℕ, _*_, _^_}
 use lib.Dec.{eqb}
+use Rattle.units.specs.Ratio.{nearestRatio}
 use Rattle.units.specs.Table.{between, every}
 use Rattle.network.specs.Network.{conductanceLimit}
 use Rattle.network.specs.Kind.{resistorKind, capacitorKind, inductorKind, hasCurve}
@@ -11,15 +12,15 @@ use Rattle.image.specs.declared.parts.Parts.{Parts}
 
 -- from ohms
 abbrev pub resistorConductance : ℕ → ℕ
-resistorConductance ohms = 10 ^ 9 / ohms
+resistorConductance ohms = nearestRatio (10 ^ 9) ohms
 
 -- from picofarads, at a sample rate
 abbrev pub capacitorConductance : ℕ → ℕ → ℕ
-capacitorConductance picofarads rate = 2 * picofarads * rate / 1000
+capacitorConductance picofarads rate = nearestRatio (2 * picofarads * rate) 1000
 
 -- from microhenries, at a sample rate
 abbrev pub inductorConductance : ℕ → ℕ → ℕ
-inductorConductance microhenries rate = 10 ^ 15 / (2 * microhenries * rate)
+inductorConductance microhenries rate = nearestRatio (10 ^ 15) (2 * microhenries * rate)
 
 -- by the kind; a diode has none
 unfoldable pub conductanceBy : (kind value rate : ℕ) → ℕ

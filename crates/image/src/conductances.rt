@@ -1,10 +1,11 @@
 // Conductances in nanosiemens: the leak of a version, the rule of each kind, and rule 6 over a
-// circuit's parts. Document 01's quotients are reduced by 2 here, so that they fit for any value and
-// rate; nothing divided by 0 is 0, as in the definitions.
+// circuit's parts. Document 01's quotients are reduced by 2 here, so that both sides fit 64 bits for any
+// value and rate.
 use super::limits;
 use super::parts::Element;
 use super::parts::Parts;
 use network::kind;
+use units::ratio;
 ghost use mathlib.Core.Path.{_≡_};
 ghost use Prim.Native.Nat.{ℕ};
 ghost use lib.ListN.{getD};
@@ -24,26 +25,19 @@ pub fn leak(version: u8) -> u64
 fn resistor(ohms: u32) -> u64
     ensures { λ r. ⌜ r ≡ resistorConductance ohms ⌝ }
 {
-    if ohms == 0 {
-        return 0;
-    }
-    1000000000 / (ohms as u64)
+    ratio::nearest(1000000000, ohms as u64)
 }
 
 fn capacitor(picofarads: u32, rate: u32) -> u64
     ensures { λ r. ⌜ r ≡ capacitorConductance picofarads rate ⌝ }
 {
-    (picofarads as u64) * (rate as u64) / 500
+    ratio::nearest((picofarads as u64) * (rate as u64), 500)
 }
 
 fn inductor(microhenries: u32, rate: u32) -> u64
     ensures { λ r. ⌜ r ≡ inductorConductance microhenries rate ⌝ }
 {
-    let product = (microhenries as u64) * (rate as u64);
-    if product == 0 {
-        return 0;
-    }
-    500000000000000 / product
+    ratio::nearest(500000000000000, (microhenries as u64) * (rate as u64))
 }
 
 // By the kind; a diode has none.

@@ -1,23 +1,24 @@
 -- `image::conductances::inductor` meets its contract. The product of two u32 fits, and both sides of the quotient are halved. Assumes nothing.
-use mathlib.Core.Path.{sym}
+use mathlib.Core.Path.{sym, _∙_}
 use Prim.Native.Nat.{_*_}
-use native.Mathlib.Nat.{mul-le-mul, mul-assoc, mul-div-mul-left}
+use native.Mathlib.Nat.{mul-le-mul, mul-assoc}
 use native.Mathlib.Omega.{arith}
 use borrow.Author.Needs.{needs}
+use Rattle.units.proofs.RatioLaws.{nearest-scaled}
 use Rattle.image.proofs.conductances.inductor.Statement.{statement}
 use Rattle.image.proofs.conductances.inductor.Tie as tie
 
-mul-product : tie.Need-mul-product
-mul-product c = record { fits = omega (arith, mul-le-mul {n₁ = c .args .microhenries} {m₁ = c .args .rate} {n₂ = 4294967295} {m₂ = 4294967295} (omega arith) (omega arith)) }
+mul-nearest : tie.Need-mul-nearest
+mul-nearest c = record { fits = omega (arith, mul-le-mul {n₁ = c .args .microhenries} {m₁ = c .args .rate} {n₂ = 4294967295} {m₂ = 4294967295} (omega arith) (omega arith)) }
+
+nearest-requires : tie.Need-nearest-requires
+nearest-requires c κs = search needs
 
 returns : tie.Need-returns
-returns c = rw (mul-assoc 2 (c .before .args .microhenries) (c .before .args .rate), c .if1 .taken)
-
-div-result : tie.Need-div-result
-div-result c = search needs
-
-returns-2 : tie.Need-returns-2
-returns-2 c = rw (mul-assoc 2 (c .before .args .microhenries) (c .before .args .rate)) (sym (mul-div-mul-left {m = 2} 500000000000000 (c .before .args .microhenries * c .before .args .rate) (omega arith)))
+returns c =
+    let microhenries = c .before .args .microhenries in
+    let rate = c .before .args .rate in
+    c .nearest .ensures ∙ rw (mul-assoc 2 microhenries rate) (sym (nearest-scaled 2 500000000000000 (microhenries * rate) (omega arith)))
 
 pub inductor-spec : {M : Type 1} → statement M
-inductor-spec = tie.close (tie.spec mul-product returns div-result returns-2)
+inductor-spec = tie.close (tie.spec mul-nearest nearest-requires returns)
