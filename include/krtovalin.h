@@ -12,6 +12,11 @@
  * ground, conductances are whole nanosiemens, curves are straight between breakpoints, and the trapezoidal rule answers an edge with
  * voltages that zigzag from sample to sample. README.md has examples.
  *
+ * A conductance is the nearest whole number of nanosiemens, halves upward: at most half a nanosiemens from the part's. Earlier builds of
+ * this library took the next whole number below, so that an element whose conductance had a fraction of a half or more has 1 nS more here
+ * and an old image may sound a hair different. Refusal 6 now lets resistors pass up to 2 x 10^9 ohms (10^9 before) and inductors however
+ * large, and refuses a capacitor from 2^30 + 1/2 nS on (from 2^30 + 1 before). README.md has examples.
+ *
  * Blocks can be cut anywhere: an accepted block of n samples and then one of m, with the state that the first left, answer and leave
  * together what one of n + m does, where that is not refused by 8.
  *
