@@ -2,39 +2,29 @@
 """What crates/bench_circuit has to print, from documents 01 and 02 alone: python3 model.py CASES.rt > stdout
 
 Reads the calls in src/cases.rt in the order in which they stand there, and shares nothing with the proved crates. A curve's current is the
-integral of its slope from zero, summed stretch by stretch; a bound is searched for from a quotient and then tested."""
+integral of its slope from zero, summed stretch by stretch; a bound is searched for from a quotient and then tested. Images are read as
+bench/image does."""
+import pathlib
 import re
-import struct
 import sys
+
+sys.path.insert(0, str(pathlib.Path(__file__).parent.parent / "image"))
+import layout  # noqa: E402
 
 M, STORED, TOP = 2**25, 2**57, 2**64
 
 
 class Circuit:
-    """An image as document 01 lays it out; only what these cases need is tested."""
+    """An accepted image's circuit; `ok` is whether it is one."""
 
     def __init__(self, image):
-        t = image[-16:]
-        e_back, c_back, elements, curves, self.nodes, self.driven, rate, out, version, size = struct.unpack('<HHBBBBIBBH', t)
-        self.ok = size == 16 and version == 1 and e_back == len(image) - 16 and 1 <= out <= self.nodes
+        self.ok = layout.number(image) == 0
         if not self.ok:
             return
-        first = len(image) - 16 - e_back
-        at = len(image) - 16 - c_back
-        self.curves = []
-        for _ in range(curves):
-            m = image[at]
-            slopes = struct.unpack_from('<%dI' % (m + 1), image, at + 4)
-            points = struct.unpack_from('<%di' % m, image, at + 8 + 4 * m)
-            self.curves.append((slopes, points))
-            at += 8 + 8 * m
-        self.elements = []
-        for j in range(elements):
-            kind, p, q, k, value = struct.unpack_from('<BBBBI', image, first + 8 * j)
-            over, under = {1: (10**9, value), 2: (2 * value * rate, 1000), 3: (10**15, 2 * value * rate), 4: (0, 1)}[kind]
-            g = (2 * over + under) // (2 * under)
-            assert kind == 4 or 1 <= g <= 2**30
-            self.elements.append((kind, p, q, k, g))
+        trailer = layout.trailer(image)
+        self.nodes, self.driven = trailer.nodes, trailer.driven
+        self.curves = [(c.slopes, c.points) for c in layout.curves(image)]
+        self.elements = [(e.kind, e.p, e.q, e.curve, layout.conductance(e, trailer.rate)) for e in layout.elements(image)]
 
     def curve(self, k, v):
         """The slope integrated from 0 to v."""
@@ -76,7 +66,7 @@ class Circuit:
         new = list(stored)
         for j, (kind, p, q, _, g) in enumerate(self.elements):
             v = volts[p] - volts[q]
-            new[j] = {1: 0, 2: 2 * (g or 0) * v - stored[j], 3: stored[j] - 2 * (g or 0) * v, 4: 0}[kind]
+            new[j] = {1: 0, 2: 2 * g * v - stored[j], 3: stored[j] - 2 * g * v, 4: 0}[kind]
         return new if all(abs(x) <= STORED for x in new) else None
 
 
