@@ -2,6 +2,8 @@ pub mod AdvanceLaws
 pub mod BoardLaws
 pub mod BoundLaws
 pub mod CurveLaws
+pub mod DrawingLaws
+pub mod Halving
 pub mod Once
 pub mod PlaceLaws
 pub mod StretchLaws

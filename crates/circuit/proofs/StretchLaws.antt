@@ -1,14 +1,12 @@
 -- A curve's current is that of its line, on the stretch that the voltage lies in. Assumes nothing.
-use mathlib.Core.Path.{_≡_, refl, sym, _∙_, ap}
+use mathlib.Core.Path.{_≡_, refl}
 use mathlib.Core.Bool.{Bool, true, false, cond}
 use mathlib.Core.List.{List, [], _∷_}
-use mathlib.Core.Logic.{⊎-elim}
-use Prim.Native.Nat.{ℕ, zero, suc, _+_, _*_, _^_, _≤_, _<_}
+use Prim.Native.Nat.{ℕ, zero, suc, _+_, _*_, _≤_, _<_}
 use native.Mathlib.Omega.{arith}
-use lib.IntN.{ℤ, pos, natAbs, _+ℤ_, _-ℤ_, _*ℤ_, *ℤ-zero}
+use lib.IntN.{ℤ, pos, _+ℤ_, _-ℤ_, _*ℤ_, *ℤ-zero}
 use lib.ListN.{length, getD}
-use lib.Dec.{T}
-use lib.Signed.{_≤ℤ_, _<ℤ_, leZ}
+use lib.Signed.{_<ℤ_, leZ}
 use Rattle.units.specs.Integer.{lower, higher}
 use Rattle.units.proofs.Integers.{signs, add-law, sub-law, pos-law, leZ-true, leZ-false, ordered, crossed, scale-one}
 use Rattle.network.specs.Network.{curve, reading, ramp, current, Rising}
@@ -85,20 +83,7 @@ curve-line ss bs x v l r =
     rw (ramp-line ss bs v l r, ramp-line ss bs (pos 0) l r, *ℤ-zero (pos (getD ss z 0)))
     (omega (signs, sub-law (a +ℤ o +ℤ k) (pos 0 +ℤ n +ℤ k), add-law (a +ℤ o) k, add-law a o, add-law (pos 0 +ℤ n) k, add-law (pos 0) n, add-law a (o -ℤ n), sub-law o n, pos-law 0))
 
-is-true : (t : Bool) → T t → t ≡ true
-is-true true h = refl
-is-true false h = absurd h
-
--- ---- finding the stretch: the breakpoints before it are at or below v, and the next one, if there is one, is above
-
-pub stretch-is : (bs : List ℤ) (v : ℤ) (j : ℕ) → j ≤ length bs → ((i : ℕ) → i < j → reading bs i ≤ℤ v) → (j < length bs → v <ℤ reading bs j) → stretchOf bs v ≡ j
-unfolding stretchOf
-stretch-is bs v zero l below above = on-first bs v above
-stretch-is [] v (suc j) l below above = absurd (omega arith)
-stretch-is (b ∷ bs) v (suc j) l below above =
-    let e : leZ b v ≡ true = is-true (leZ b v) (below 0 (omega arith) .le) in
-    rw e (ap suc (stretch-is bs v j (omega arith) (λ i h. below (suc i) (omega arith)) (λ h. above (omega arith))))
-
+-- a stretch is one of the curve's
 pub stretch-there : (bs : List ℤ) (v : ℤ) → stretchOf bs v ≤ length bs
 unfolding stretchOf
 stretch-there [] v = omega arith

@@ -17,6 +17,12 @@ unfoldable pub stretchOf : List ℤ → ℤ → ℕ
 stretchOf [] v = 0
 stretchOf (b ∷ breakpoints) v = cond (leZ b v) (suc (stretchOf breakpoints v)) 0
 
+-- a row is that of v's stretch or one of the four before it, the rows of these breakpoints being numbered from `first` on
+pub record Near (breakpoints : List ℤ) (v : ℤ) (first row : ℕ) : Type 0 where
+  pub from : first ≤ row
+  pub reached : row ≤ first + stretchOf breakpoints v
+  pub close : first + stretchOf breakpoints v ≤ row + 4
+
 -- where the line of stretch j meets zero volts, above where that of stretch 0 does: lines meet at breakpoints
 unfoldable pub offset : List ℕ → List ℤ → ℕ → ℤ
 offset slopes breakpoints zero = pos 0
@@ -79,21 +85,31 @@ rowNumber slopes breakpoints i k =
     cond (eqb k 0) (reading breakpoints i)
     (cond (eqb k 1) (pos (getD slopes i 0)) (cond (leb i (length breakpoints)) (atZero slopes breakpoints i) (pos 0)))
 
--- what they are made of; the bounds are for sums
+-- the same where every line is counted from that of stretch 0
+unfoldable pub drawnNumber : List ℕ → List ℤ → ℕ → ℕ → ℤ
+drawnNumber slopes breakpoints i k = cond (eqb k 0) (reading breakpoints i) (cond (eqb k 1) (pos (getD slopes i 0)) (offset slopes breakpoints i))
+
+-- how far the line of stretch i + 1 lies above that of stretch i at zero volts; the bound is for sums
 pub record Step (slopes : List ℕ) (breakpoints : List ℤ) (i : ℕ) (r : ℤ) : Type 0 where
   pub value : offset slopes breakpoints (i + 1) ≡ offset slopes breakpoints i +ℤ r
   pub small : natAbs r ≤ 2 ^ 57
 
-pub record Offset (slopes : List ℕ) (breakpoints : List ℤ) (j : ℕ) (r : ℤ) : Type 0 where
-  pub value : r ≡ offset slopes breakpoints j
-  pub small : natAbs r ≤ j * 2 ^ 57
-
-pub record AtZero (slopes : List ℕ) (breakpoints : List ℤ) (i : ℕ) (r : ℤ) : Type 0 where
-  pub value : r ≡ atZero slopes breakpoints i
-  pub small : natAbs r ≤ (16 + i) * 2 ^ 57
-
--- the first n stretches stand from row `first` on, and what stands elsewhere is as it was
-pub record Filled (slopes : List ℕ) (breakpoints before : List ℤ) (first n : ℕ) (after : List ℤ) : Type 0 where
+-- n rows of these numbers stand from row `first` on, and what stands elsewhere is as it was
+pub record Rows (number : ℕ → ℕ → ℤ) (before : List ℤ) (first n : ℕ) (after : List ℤ) : Type 0 where
   pub long : length after ≡ length before
-  pub row : (i k : ℕ) → i < n → k < 3 → reading after (3 * (first + i) + k) ≡ rowNumber slopes breakpoints i k
+  pub row : (i k : ℕ) → i < n → k < 3 → reading after (3 * (first + i) + k) ≡ number i k
   pub elsewhere : (t : ℕ) → (t < 3 * first) ⊎ (3 * (first + n) ≤ t) → reading after t ≡ reading before t
+
+-- the first n stretches of a curve stand from row `first` on
+abbrev pub Filled : List ℕ → List ℤ → List ℤ → ℕ → ℕ → List ℤ → Type 0
+Filled slopes breakpoints before first n after = Rows (rowNumber slopes breakpoints) before first n after
+
+-- .. with every line counted from that of stretch 0 still
+abbrev pub Drawn : List ℕ → List ℤ → List ℤ → ℕ → ℕ → List ℤ → Type 0
+Drawn slopes breakpoints before first n after = Rows (drawnNumber slopes breakpoints) before first n after
+
+-- the lines of n rows from row `first` on are lower by a current, and what stands elsewhere is as it was
+pub record Lowered (before : List ℤ) (first n : ℕ) (current : ℤ) (after : List ℤ) : Type 0 where
+  pub long : length after ≡ length before
+  pub line : (i : ℕ) → i < n → atZeroIn after (first + i) ≡ atZeroIn before (first + i) -ℤ current
+  pub elsewhere : (t : ℕ) → ((i : ℕ) → i < n → t ≡ 3 * (first + i) + 2 → ⊥) → reading after t ≡ reading before t

@@ -1,26 +1,53 @@
 // The current of a curve, from its stretches.
 use crate::stretches;
 use units::signed;
+ghost use mathlib.Core.Bool.{cond};
 ghost use mathlib.Core.Path.{_≡_};
-ghost use Prim.Native.Nat.{ℕ, _+_, _≤_, _<_, max};
-ghost use lib.IntN.{ℤ};
+ghost use Prim.Native.Nat.{_+_, _<_, max};
+ghost use lib.Signed.{ltZ};
 ghost use Rattle.units.specs.Voltage.{Within};
-ghost use Rattle.network.specs.Network.{greatest, breakpointLimit};
-ghost use Rattle.circuit.specs.Stretch.{rows, stretchOf, slopesIn, breakpointsIn, curveCurrent, CurveReady};
+ghost use Rattle.network.specs.Network.{greatest, breakpointLimit, Rising};
+ghost use Rattle.circuit.specs.Stretch.{rows, stretchOf, Near, slopesIn, breakpointsIn, curveCurrent, CurveReady};
 
-// The stretch that v lies in.
+// How far a look at the last breakpoint of `half` of them carries the search: past them all, if v has
+// reached it.
+fn passed(v: i64, breakpoint: i64, half: usize) -> usize
+    ensures { λ r. ⌜ r ≡ cond (ltZ v breakpoint) 0 half ⌝ }
+{
+    if signed::less(v, breakpoint) { 0 } else { half }
+}
+
+// A row at or before that of v's stretch, and at most four before it. v's stretch is the row's or at most
+// `left` later; each look halves what is left.
+fn near(stretches: &[i64; 408], first: usize, m: usize, v: i64) -> usize
+    requires { ⌜ (first + m < rows) × Rising (breakpointsIn (now stretches) first m) ⌝ }
+    ensures { λ r. ⌜ Near (breakpointsIn (now (stretches .entry)) first m) v first r ⌝ }
+{
+    let mut row = first;
+    let mut left = m;
+    while 4 < left {
+        let half = left / 2;
+        row += passed(v, stretches::breakpoint(stretches, row + half - 1), half);
+        left -= half;
+    }
+    row
+}
+
+// The stretch that v lies in. Of the last four breakpoints it is found from the left: on a processor that
+// foresees its jumps that is faster than to halve them.
 pub fn stretch(stretches: &[i64; 408], first: usize, m: usize, v: i64) -> usize
-    requires { ⌜ first + m < rows ⌝ }
+    requires { ⌜ (first + m < rows) × Rising (breakpointsIn (now stretches) first m) ⌝ }
     ensures { λ r. ⌜ r ≡ stretchOf (breakpointsIn (now (stretches .entry)) first m) v ⌝ }
 {
-    let mut j: usize = 0;
-    while j < m {
-        if signed::less(v, stretches::breakpoint(stretches, first + j)) {
-            return j;
+    let end = first + m;
+    let mut row = near(stretches, first, m, v);
+    while row < end {
+        if signed::less(v, stretches::breakpoint(stretches, row)) {
+            return row - first;
         }
-        j += 1;
+        row += 1;
     }
-    j
+    row - first
 }
 
 // The current of a curve at v: its line's, on the stretch that v lies in.

@@ -5,6 +5,7 @@ pub mod board;
 pub mod bound;
 pub mod branch;
 pub mod curve;
+pub mod drawing;
 pub mod node;
 pub mod places;
 pub mod stretches;

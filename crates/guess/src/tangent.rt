@@ -7,9 +7,9 @@ use circuit::stretches;
 use network::kind;
 ghost use mathlib.Core.Path.{_≡_};
 ghost use mathlib.Core.Bool.{true};
-ghost use Prim.Native.Nat.{_+_, _<_};
+ghost use Prim.Native.Nat.{_<_};
 ghost use Rattle.network.specs.Kind.{hasCurve};
-ghost use Rattle.circuit.specs.Stretch.{rows};
+ghost use Rattle.circuit.specs.Stretch.{CurveReady};
 ghost use Rattle.circuit.specs.Board.{countOn, kindOn, Laid, Ranged, Evaluable};
 
 // The current at the voltage v is slope × v + at_zero.
@@ -20,7 +20,7 @@ pub struct Tangent {
 
 // That of a curve of m breakpoints at v, its stretches from row `first` on.
 fn on_curve(stretches: &[i64; 408], first: usize, m: usize, v: i64) -> Tangent
-    requires { ⌜ first + m < rows ⌝ }
+    requires { ⌜ CurveReady (now stretches) first m ⌝ }
 {
     let row = first + curve::stretch(stretches, first, m, v);
     Tangent {

@@ -1,5 +1,5 @@
 // The table of stretches of all curves, 17 rows each.
-use circuit::stretches;
+use circuit::drawing;
 use image::Curve;
 use image::Parts;
 ghost use mathlib.Core.Path.{_≡_};
@@ -28,7 +28,7 @@ pub fn stretches(parts: Parts, table: &mut [i64; 408])
         let c = curves[k];
         let slopes = c.slopes;
         let breakpoints = c.breakpoints;
-        stretches::fill(&slopes, &breakpoints, c.count as usize, 17 * k, table);
+        drawing::fill(&slopes, &breakpoints, c.count as usize, 17 * k, table);
         k += 1;
     }
 }

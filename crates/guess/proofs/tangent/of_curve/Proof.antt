@@ -1,4 +1,3 @@
-use native.Mathlib.Omega.{arith}
 use borrow.Author.Needs.{needs}
 use Rattle.circuit.proofs.BoardLaws.{ends}
 use Rattle.guess.proofs.tangent.of_curve.Statement.{statement}
@@ -14,7 +13,7 @@ across-requires : tie.Need-across-requires
 across-requires c κs = let s = c .before .before in ends _ _ (s .pre .0) (s .args .j) (s .pre .2) _ (s .pre .1)
 
 on-curve-requires : tie.Need-on-curve-requires
-on-curve-requires c κs = let s = c .before .before .before in omega (arith, c .before .before .first .ensures, c .before .breakpoints .ensures, s .pre .0 .curves (s .args .j) (s .pre .2) (s .pre .3) .there)
+on-curve-requires c κs = let s = c .before .before .before in rw (c .before .before .first .ensures, c .before .breakpoints .ensures) (s .pre .0 .curves (s .args .j) (s .pre .2) (s .pre .3))
 
 returns : tie.Need-returns
 returns c = search needs

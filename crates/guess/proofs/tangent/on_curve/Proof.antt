@@ -13,10 +13,10 @@ use Rattle.guess.proofs.tangent.on_curve.Tie as tie
 there : (c : tie.After-stretch) → c .before .args .first + c .stretch .result < rows
 there c =
     let a = c .before .args in
-    omega (arith, c .stretch .ensures, stretch-there (breakpointsIn (a .stretches .now) (a .first) (a .m)) (toZ w64 (ofZ w64 (a .v))), breakpoints-in (a .stretches .now) (a .first) (a .m), c .before .pre)
+    omega (arith, c .stretch .ensures, stretch-there (breakpointsIn (a .stretches .now) (a .first) (a .m)) (toZ w64 (ofZ w64 (a .v))), breakpoints-in (a .stretches .now) (a .first) (a .m), c .before .pre .there)
 
 stretch-requires : tie.Need-stretch-requires
-stretch-requires c κs = search needs
+stretch-requires c κs = (c .pre .there, c .pre .limits .rising)
 
 add-row : tie.Need-add-row
 add-row c = record { fits = omega (arith, there c) }

@@ -7,8 +7,8 @@ use mir.Facts.{toZ-ofZ}
 use borrow.Author.Needs.{needs}
 use Rattle.units.proofs.Sizes.{abs-mul}
 use Rattle.network.proofs.Ranges.{product-fits}
-use Rattle.circuit.proofs.stretches.product.Statement.{statement}
-use Rattle.circuit.proofs.stretches.product.Tie as tie
+use Rattle.circuit.proofs.drawing.product.Statement.{statement}
+use Rattle.circuit.proofs.drawing.product.Tie as tie
 
 -- the slope, as a number with a sign
 at-slope : (c : tie.After-whole) → toZ w64 (ofZ w64 (c .whole .result)) ≡ pos (c .before .args .slope)

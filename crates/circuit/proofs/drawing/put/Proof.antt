@@ -6,8 +6,8 @@ use mir.Val.{toZ, ofZ}
 use mir.Facts.{toZ-ofZ}
 use borrow.Author.Needs.{needs}
 use Rattle.units.specs.Table.{overlaid}
-use Rattle.circuit.proofs.stretches.put.Statement.{statement}
-use Rattle.circuit.proofs.stretches.put.Tie as tie
+use Rattle.circuit.proofs.drawing.put.Statement.{statement}
+use Rattle.circuit.proofs.drawing.put.Tie as tie
 
 mul-breakpoint : tie.Need-mul-breakpoint
 mul-breakpoint c = search needs

@@ -8,9 +8,9 @@ use mir.Val.{toZ, ofZ}
 use borrow.Author.Needs.{needs}
 use Rattle.units.proofs.Sizes.{abs-sub}
 use Rattle.network.specs.Network.{reading}
-use Rattle.circuit.proofs.CurveLaws.{few, slope-small, breakpoint-small, step-is}
-use Rattle.circuit.proofs.stretches.step.Statement.{statement}
-use Rattle.circuit.proofs.stretches.step.Tie as tie
+use Rattle.circuit.proofs.DrawingLaws.{few, slope-small, breakpoint-small, step-is}
+use Rattle.circuit.proofs.drawing.step.Statement.{statement}
+use Rattle.circuit.proofs.drawing.step.Tie as tie
 
 -- the breakpoint, and the two products, as numbers with a sign
 at-breakpoint : (c : tie.After-widened) → toZ w64 (ofZ w64 (c .widened .result)) ≡ reading (c .before .before .args .breakpoints .now) (c .before .before .args .i)
