@@ -17,7 +17,7 @@ CRATE = HERE.parent.parent / "crates" / "render"
 DATA = CRATE / "data"
 NAMES = CRATE / "args"
 LINES = CRATE / "stdout"
-FILES = "document", "limits", "refusals", "files", "circuits", "rounding"
+FILES = "document", "limits", "refusals", "files", "circuits", "rounding", "stretches"
 
 
 def builds():
