@@ -1,21 +1,26 @@
 #!/bin/sh
-# count.sh [--time RUNS] [--growth]: what a sample of the proved block costs, by circuit, on this machine's own processor.
+# count.sh [--time RUNS [--before MODULE.ll]] [--growth | --curves]: what a sample of the proved block costs, by circuit, on this machine's own processor.
 #
 # Evaluations of a node's net current, from a block with a counter in it; with --time also nanoseconds of the block as it is and of the f64
-# simulator, the median of RUNS runs. The rows are rows.txt's, with --growth growth.txt's.
+# simulator, the median of RUNS runs. The rows are rows.txt's, with --growth growth.txt's. With --curves, one net current and one sample by the
+# length of a curve and the stretch of its voltage. With --before, another block's times beside them, from what module.sh makes of another commit.
 set -eu
 cd "$(dirname "$0")/../.."
-file=bench/count/rows.txt
-time=
+rows=rows runs= before=
 while [ $# -gt 0 ]; do
     case $1 in
-    --growth) file=bench/count/growth.txt ;;
+    --growth) rows=growth ;;
+    --curves) rows=curves ;;
     --time)
-        time="--time $2"
+        runs=$2
+        shift
+        ;;
+    --before)
+        before=$2
         shift
         ;;
     *)
-        echo "count.sh [--time RUNS] [--growth]" >&2
+        echo "count.sh [--time RUNS [--before MODULE.ll]] [--growth | --curves]" >&2
         exit 2
         ;;
     esac
@@ -23,11 +28,24 @@ while [ $# -gt 0 ]; do
 done
 mkdir -p target/bench
 bench/native/module.sh target/bench/block.ll
-python3 bench/count/instrument.py target/bench/block.ll target/bench/counted.ll
-for pair in counted:count block:time; do
-    module=target/bench/${pair%:*}
-    bench/native/object.sh "$module.ll" "$module.o"
-    cc -std=c11 -D_POSIX_C_SOURCE=199309L -O2 -Wall -Wextra -Iinclude bench/count/host.c "$module.o" -o "target/bench/${pair#*:}"
-done
-[ -z "$time" ] || bench/build.sh
-exec python3 bench/count/table.py "$file" $time
+
+# The program target/bench/$3, of bench/count/$2.c and the module $1.
+linked() {
+    bench/native/object.sh "$1" "target/bench/$3.o"
+    cc -std=c11 -D_POSIX_C_SOURCE=199309L -O2 -Wall -Wextra -Iinclude "bench/count/$2.c" "target/bench/$3.o" -o "target/bench/$3"
+}
+# What is timed of the module $1; $2 is added to the programs' names.
+timed() {
+    linked "$1" host "time$2"
+    python3 bench/count/instrument.py open "$1" "target/bench/open$2.ll"
+    linked "target/bench/open$2.ll" net "net$2"
+}
+python3 bench/count/instrument.py count target/bench/block.ll target/bench/counted.ll
+linked target/bench/counted.ll host count
+timed target/bench/block.ll ''
+[ -z "$before" ] || timed "$before" -before
+if [ $rows = curves ]; then
+    exec python3 bench/count/curves.py "${runs:-5}" ${before:+--before}
+fi
+[ -z "$runs" ] || bench/build.sh
+exec python3 bench/count/table.py "bench/count/$rows.txt" ${runs:+--time "$runs"} ${before:+--before}

@@ -1,7 +1,9 @@
-"""instrument.py IN.ll OUT.ll: a module of the block that counts the net currents it takes.
+"""instrument.py count IN.ll OUT.ll: a module of the block that counts the net currents it takes.
+instrument.py open IN.ll OUT.ll: a module of the block whose net current can be called from outside.
 
-At the entry of circuit::node::net_current it adds one to bench_evaluations; at the entry of solve::sample::sample it calls bench_sample. host.c
-has both. It is done before anything is inlined, so that no evaluation gets away.
+To count, it adds one to bench_evaluations at the entry of circuit::node::net_current, and calls bench_sample at the entry of solve::sample::sample;
+host.c has both. To lay it open, bench_net calls circuit::node::net_current, and bench_lent is called at the entry of solve::sample::sample with what
+a sample is lent; net.c has the other side. It is done before anything is inlined, so that no evaluation gets away.
 """
 
 import pathlib
@@ -13,8 +15,22 @@ COUNTED = """  %bench.old = load i64, ptr @bench_evaluations
   store i64 %bench.new, ptr @bench_evaluations
 """
 MARKED = "  call void @bench_sample()\n"
-PLACES = {"circuit::node::net_current": COUNTED, "solve::sample::sample": MARKED}
-OUTSIDE = "\n@bench_evaluations = external global i64\ndeclare void @bench_sample()\n"
+# The sample's first parameter is where its number goes.
+LENT = "  call void @bench_lent(ptr %a1, ptr %a2, ptr %a3, ptr %a4)\n"
+OPENED = """
+define i64 @bench_net(ptr %board, ptr %stretches, ptr %stored, ptr %volts, i64 %node) {
+  %net = call i64 @"circuit::node::net_current"(ptr %board, ptr %stretches, ptr %stored, ptr %volts, i64 %node)
+  ret i64 %net
+}
+"""
+# For each way, the lines at the entry of functions, and what comes with them.
+WAYS = {
+    "count": (
+        {"circuit::node::net_current": COUNTED, "solve::sample::sample": MARKED},
+        "\n@bench_evaluations = external global i64\ndeclare void @bench_sample()\n",
+    ),
+    "open": ({"solve::sample::sample": LENT}, f"{OPENED}\ndeclare void @bench_lent(ptr, ptr, ptr, ptr)\n"),
+}
 
 
 def at_entry(module, name, lines):
@@ -26,11 +42,12 @@ def at_entry(module, name, lines):
     return module[:head.end()] + lines + module[head.end():]
 
 
-def main(old, new):
+def main(way, old, new):
     module = pathlib.Path(old).read_text()
-    for name, lines in PLACES.items():
+    places, outside = WAYS[way]
+    for name, lines in places.items():
         module = at_entry(module, name, lines)
-    pathlib.Path(new).write_text(module + OUTSIDE)
+    pathlib.Path(new).write_text(module + outside)
 
 
 if __name__ == "__main__":

@@ -1,6 +1,7 @@
-"""table.py FILE [--time RUNS]: the table of costs of a file's circuits, in Markdown.
+"""table.py FILE [--time RUNS [--before]]: the table of costs of a file's circuits, in Markdown.
 
-Wants target/bench/count and, for times, target/bench/time and target/bench/float: count.sh builds them and calls this.
+Wants target/bench/count and, for times, target/bench/time and target/bench/float, with --before also target/bench/time-before, which is another block's:
+count.sh builds them and calls this.
 """
 
 import pathlib
@@ -42,25 +43,30 @@ def written(build):
     return files
 
 
-def cells(name, build, runs):
+def cells(name, build, runs, before):
     files = written(build)
     free = build.fields["nodes"] - build.fields["drives"]
     mean, greatest = said(BENCH / "count", *files)
     yield from (name.replace("_", " "), f"{free}", f"{len(build.elements)}", f"{build.samples:,}", f"{mean:,.1f}", f"{greatest:,.0f}")
     if runs:
         (ours,), (floats,) = said(BENCH / "time", "--time", runs, *files), said(BENCH / "float", "--time", runs, *files)
+        if before:
+            (theirs,) = said(BENCH / "time-before", "--time", runs, *files)
+            yield from (f"{theirs:,.0f}", f"{ours / theirs:.2f}")
         yield from (f"{ours:,.0f}", f"{1e9 / RATE / ours:,.3g}", f"{floats:,.0f}", f"{ours / floats:,.1f}")
 
 
-def main(path, runs):
+def main(path, runs, before):
     heads = ["circuit", "free nodes", "elements", "samples", "evaluations, mean", "most"]
+    if before:
+        heads += ["ns a sample before", "after / before"]
     if runs:
         heads += ["ns a sample", "times real time at 48 kHz", "f64: ns a sample", "ours / f64"]
     for row in heads, ["---"] * len(heads):
         print(f"| {' | '.join(row)} |", flush=True)
     for name, build in builds(path).items():
-        print(f"| {' | '.join(cells(name, build, runs))} |", flush=True)
+        print(f"| {' | '.join(cells(name, build, runs, before))} |", flush=True)
 
 
 if __name__ == "__main__":
-    main(pathlib.Path(sys.argv[1]), int(sys.argv[3]) if "--time" in sys.argv else 0)
+    main(pathlib.Path(sys.argv[1]), int(sys.argv[3]) if "--time" in sys.argv else 0, "--before" in sys.argv)
