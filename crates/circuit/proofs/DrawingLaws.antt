@@ -1,4 +1,4 @@
--- What a curve is put into the table of stretches by. Assumes nothing.
+-- What putting a curve into the table of stretches rests on. Assumes nothing.
 use mathlib.Core.Path.{_≡_, refl, sym, _∙_, ap}
 use mathlib.Core.List.{List, [], _∷_}
 use mathlib.Core.Logic.{_⊎_, inl, inr, ⊎-elim}
@@ -136,10 +136,9 @@ module _ (ss : List ℕ) (bs : List ℤ) (m : ℕ) (long : length bs ≡ m) (bef
       zero-place a = omega arith
 
       each : (i : ℕ) → i < m → reading (breakpointsIn mid first m) i ≡ reading bs i
-      each i h = breakpoint-in mid first m i h ∙ ap (reading mid) (zero-place (3 * (first + i))) ∙ first-number i h
-        where
-          first-number : (i : ℕ) → i < m → reading mid (3 * (first + i) + 0) ≡ reading bs i
-          first-number i h = drawn .row i 0 (omega arith) (omega arith)
+      each i h =
+          let here : reading mid (3 * (first + i) + 0) ≡ reading bs i = drawn .row i 0 (omega arith) (omega arith) in
+          breakpoint-in mid first m i h ∙ ap (reading mid) (zero-place (3 * (first + i))) ∙ here
 
   pub drawn-line : (i : ℕ) → i ≤ m → atZeroIn mid (first + i) ≡ offset ss bs i
   unfolding drawnNumber
@@ -157,7 +156,7 @@ module _ (ss : List ℕ) (bs : List ℤ) (m : ℕ) (long : length bs ≡ m) (bef
   unfolding rowNumber drawnNumber atZero
   lowered-fills z after is there f = record {
     long = f .long ∙ drawn .long;
-    row = λ i k h l. number i k h l;
+    row = number;
     elsewhere = λ t h. f .elsewhere t (λ i l e. ⊎-elim (λ (q : t < 3 * first). omega arith) (λ (q : 3 * (first + (m + 1)) ≤ t). omega arith) h) ∙ drawn .elsewhere t h;
   }
     where

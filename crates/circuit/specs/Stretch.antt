@@ -17,7 +17,8 @@ unfoldable pub stretchOf : List ℤ → ℤ → ℕ
 stretchOf [] v = 0
 stretchOf (b ∷ breakpoints) v = cond (leZ b v) (suc (stretchOf breakpoints v)) 0
 
--- a row is that of v's stretch or one of the four before it, the rows of these breakpoints being numbered from `first` on
+-- a row is that of v's stretch or one of the four before it, the rows of these breakpoints being numbered from `first` on. That it is close is
+-- what keeps a walk from there short; that the walk finds the stretch does not need it
 pub record Near (breakpoints : List ℤ) (v : ℤ) (first row : ℕ) : Type 0 where
   pub from : first ≤ row
   pub reached : row ≤ first + stretchOf breakpoints v
@@ -79,15 +80,17 @@ slopesTo slopes m = tabulate (λ (i : ℕ). getD slopes i 0) (suc m)
 unfoldable pub breakpointsTo : List ℤ → ℕ → List ℤ
 breakpointsTo breakpoints m = tabulate (reading breakpoints) m
 
--- number k of the row of stretch i; past the last stretch there are zeros
-unfoldable pub rowNumber : List ℕ → List ℤ → ℕ → ℕ → ℤ
-rowNumber slopes breakpoints i k =
-    cond (eqb k 0) (reading breakpoints i)
-    (cond (eqb k 1) (pos (getD slopes i 0)) (cond (leb i (length breakpoints)) (atZero slopes breakpoints i) (pos 0)))
+-- number k of the row of stretch i, whose line has this current at zero volts
+abbrev pub rowWith : List ℕ → List ℤ → ℤ → ℕ → ℕ → ℤ
+rowWith slopes breakpoints current i k = cond (eqb k 0) (reading breakpoints i) (cond (eqb k 1) (pos (getD slopes i 0)) current)
 
--- the same where every line is counted from that of stretch 0
+-- as it is to be: past the last stretch there are zeros
+unfoldable pub rowNumber : List ℕ → List ℤ → ℕ → ℕ → ℤ
+rowNumber slopes breakpoints i k = rowWith slopes breakpoints (cond (leb i (length breakpoints)) (atZero slopes breakpoints i) (pos 0)) i k
+
+-- as it is drawn first: every line is counted from that of stretch 0
 unfoldable pub drawnNumber : List ℕ → List ℤ → ℕ → ℕ → ℤ
-drawnNumber slopes breakpoints i k = cond (eqb k 0) (reading breakpoints i) (cond (eqb k 1) (pos (getD slopes i 0)) (offset slopes breakpoints i))
+drawnNumber slopes breakpoints i k = rowWith slopes breakpoints (offset slopes breakpoints i) i k
 
 -- how far the line of stretch i + 1 lies above that of stretch i at zero volts; the bound is for sums
 pub record Step (slopes : List ℕ) (breakpoints : List ℤ) (i : ℕ) (r : ℤ) : Type 0 where

@@ -33,8 +33,8 @@ fn near(stretches: &[i64; 408], first: usize, m: usize, v: i64) -> usize
     row
 }
 
-// The stretch that v lies in. Of the last four breakpoints it is found from the left: on a processor that
-// foresees its jumps that is faster than to halve them.
+// The stretch that v lies in. Among the last four breakpoints it is found from the left: where jumps are
+// foreseen that is faster than to halve them.
 pub fn stretch(stretches: &[i64; 408], first: usize, m: usize, v: i64) -> usize
     requires { ⌜ (first + m < rows) × Rising (breakpointsIn (now stretches) first m) ⌝ }
     ensures { λ r. ⌜ r ≡ stretchOf (breakpointsIn (now (stretches .entry)) first m) v ⌝ }

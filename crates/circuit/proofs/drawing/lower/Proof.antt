@@ -25,7 +25,7 @@ add-at-zero c = search needs
 at-zero-requires : tie.Need-at-zero-requires Inv-loop μ-loop
 at-zero-requires c κs = search needs
 
--- the line of row i, as it was; and the current
+-- the line of row i, as a number with a sign
 at-line : (c : tie.After-at-zero Inv-loop μ-loop) → toZ w64 (ofZ w64 (c .at-zero .result)) ≡ atZeroIn (c .before .before .before .loop .stretches) (c .before .before .before .before .args .first + c .before .before .before .loop .i)
 at-line c =
     let e : toZ w64 (ofZ w64 (c .at-zero .result)) ≡ c .at-zero .result = search needs in
