@@ -1,11 +1,16 @@
 #!/bin/sh
-# count.sh [--time RUNS [--before MODULE.ll]] [--growth | --curves]: what a sample of the proved block costs, by circuit, on this machine's own processor.
+# count.sh [--growth] [--time RUNS [--before MODULE.ll]]: what a sample of the proved block costs, by circuit, on this machine's own processor.
+# count.sh --curves [--time RUNS] [--before MODULE.ll]: nanoseconds of one net current and of one sample, by a curve's length and its voltage's stretch.
 #
 # Evaluations of a node's net current, from a block with a counter in it; with --time also nanoseconds of the block as it is and of the f64
-# simulator, the median of RUNS runs. The rows are rows.txt's, with --growth growth.txt's. With --curves, one net current and one sample by the
-# length of a curve and the stretch of its voltage. With --before, another block's times beside them, from what module.sh makes of another commit.
+# simulator, the median of RUNS runs. The rows are rows.txt's, with --growth growth.txt's. --curves times in any case, with 5 runs unless told. With
+# --before, the times of another block stand beside them: MODULE.ll is what module.sh makes of another commit.
 set -eu
 cd "$(dirname "$0")/../.."
+usage() {
+    echo "count.sh [--growth] [--time RUNS [--before MODULE.ll]], or count.sh --curves [--time RUNS] [--before MODULE.ll]" >&2
+    exit 2
+}
 rows=rows runs= before=
 while [ $# -gt 0 ]; do
     case $1 in
@@ -19,13 +24,12 @@ while [ $# -gt 0 ]; do
         before=$2
         shift
         ;;
-    *)
-        echo "count.sh [--time RUNS [--before MODULE.ll]] [--growth | --curves]" >&2
-        exit 2
-        ;;
+    *) usage ;;
     esac
     shift
 done
+[ $rows != curves ] || runs=${runs:-5}
+[ -z "$before" ] || [ -n "$runs" ] || usage
 mkdir -p target/bench
 bench/native/module.sh target/bench/block.ll
 
@@ -34,18 +38,20 @@ linked() {
     bench/native/object.sh "$1" "target/bench/$3.o"
     cc -std=c11 -D_POSIX_C_SOURCE=199309L -O2 -Wall -Wextra -Iinclude "bench/count/$2.c" "target/bench/$3.o" -o "target/bench/$3"
 }
-# What is timed of the module $1; $2 is added to the programs' names.
+# The programs that time the module $1; $2 is added to their names.
 timed() {
     linked "$1" host "time$2"
-    python3 bench/count/instrument.py open "$1" "target/bench/open$2.ll"
-    linked "target/bench/open$2.ll" net "net$2"
+    if [ $rows = curves ]; then
+        python3 bench/count/instrument.py open "$1" "target/bench/open$2.ll"
+        linked "target/bench/open$2.ll" net "net$2"
+    fi
 }
-python3 bench/count/instrument.py count target/bench/block.ll target/bench/counted.ll
-linked target/bench/counted.ll host count
 timed target/bench/block.ll ''
 [ -z "$before" ] || timed "$before" -before
 if [ $rows = curves ]; then
-    exec python3 bench/count/curves.py "${runs:-5}" ${before:+--before}
+    exec python3 bench/count/curves.py "$runs" ${before:+--before}
 fi
+python3 bench/count/instrument.py count target/bench/block.ll target/bench/counted.ll
+linked target/bench/counted.ll host count
 [ -z "$runs" ] || bench/build.sh
 exec python3 bench/count/table.py "bench/count/$rows.txt" ${runs:+--time "$runs"} ${before:+--before}

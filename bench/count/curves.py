@@ -31,14 +31,15 @@ def held(curves, name, v):
     return describe.Build([line.split() for line in lines])
 
 
-def timed(kinds, files, runs):
-    """A kind of time of each block, and where there are two how the second one's is to the first one's."""
-    times = [table.said(table.BENCH / kind[0], *kind[1:], runs, *files)[0] for kind in kinds]
-    return [f"{time:,.3g}" if time < 100 else f"{time:,.0f}" for time in times] + [f"{times[1] / times[0]:.2f}"] * (len(times) - 1)
+def timed(program, files, runs, before):
+    """The cells of a program's time, with --before also of the other block's and of how ours is to it."""
+    name, *words = program
+    times = [table.said(table.BENCH / f"{name}{block}", *words, runs, *files)[0] for block in (["-before", ""] if before else [""])]
+    cells = [f"{time:,.1f}" if time < 100 else f"{time:,.0f}" for time in times]
+    return [*cells, f"{times[1] / times[0]:.2f}"] if before else cells
 
 
 def main(runs, before):
-    blocks = ["-before", ""] if before else [""]
     heads = ["breakpoints", "stretch"]
     for kind in "net current", "sample":
         heads += [f"ns a {kind} before", f"ns a {kind}", "after / before"] if before else [f"ns a {kind}"]
@@ -51,8 +52,7 @@ def main(runs, before):
             if length == 1 and place == "middle":
                 continue
             files = table.written(held(curves, f"B{length}", v))
-            nets = timed([[f"net{block}"] for block in blocks], files, runs)
-            samples = timed([[f"time{block}", "--time"] for block in blocks], files, runs)
+            nets, samples = timed(["net"], files, runs, before), timed(["time", "--time"], files, runs, before)
             print(f"| {' | '.join([str(length), place, *nets, *samples])} |", flush=True)
 
 

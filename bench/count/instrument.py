@@ -23,29 +23,34 @@ define i64 @bench_net(ptr %board, ptr %stretches, ptr %stored, ptr %volts, i64 %
   ret i64 %net
 }
 """
-# For each way, the lines at the entry of functions, and what comes with them.
+NET, SAMPLE = "circuit::node::net_current", "solve::sample::sample"
+# The types of their parameters: another module's may take something else, and a call of the wrong types would go unseen.
+PARAMETERS = {NET: ["ptr"] * 4 + ["i64"], SAMPLE: ["ptr"] * 5}
+# For each way, the lines at the entry of both functions, and what comes with them.
 WAYS = {
     "count": (
-        {"circuit::node::net_current": COUNTED, "solve::sample::sample": MARKED},
+        {NET: COUNTED, SAMPLE: MARKED},
         "\n@bench_evaluations = external global i64\ndeclare void @bench_sample()\n",
     ),
-    "open": ({"solve::sample::sample": LENT}, f"{OPENED}\ndeclare void @bench_lent(ptr, ptr, ptr, ptr)\n"),
+    "open": ({NET: "", SAMPLE: LENT}, f"{OPENED}\ndeclare void @bench_lent(ptr, ptr, ptr, ptr)\n"),
 }
 
 
 def at_entry(module, name, lines):
     """The module with the lines at the entry of this function, which must be there: a table of zeros would go unseen."""
     # The head, and the label of the first block.
-    head = re.search(rf'^define [^\n]*@"{name}"\([^\n]*\{{\n[^\s:]+:[^\n]*\n', module, re.M)
+    head = re.search(rf'^define [^\n]*@"{name}"\(([^\n]*)\)[^\n]*\{{\n[^\s:]+:[^\n]*\n', module, re.M)
     if not head:
         sys.exit(f"no {name} in the module")
+    if [parameter.split()[0] for parameter in head[1].split(", ")] != PARAMETERS[name]:
+        sys.exit(f"{name} takes {head[1]} in the module")
     return module[:head.end()] + lines + module[head.end():]
 
 
 def main(way, old, new):
     module = pathlib.Path(old).read_text()
-    places, outside = WAYS[way]
-    for name, lines in places.items():
+    entries, outside = WAYS[way]
+    for name, lines in entries.items():
         module = at_entry(module, name, lines)
     pathlib.Path(new).write_text(module + outside)
 

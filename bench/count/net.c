@@ -1,7 +1,7 @@
 /* net RUNS IMAGE DRIVES: nanoseconds that one net current of the output node takes as the block's last sample begins, the median of RUNS runs of at
    least a tenth of a second each.
 
-   Wants the block that instrument.py laid open, which calls what is exported here. The node's voltage is set anew before each net current, to 16
+   Wants the block that instrument.py laid open, which calls what is exported here. The node's voltage is set anew before each net current, to
    values next to each other in turn, so that none can be carried over to the next. */
 #include <stdio.h>
 #include <stdlib.h>
@@ -11,6 +11,7 @@
 #include "../timing.h"
 
 #define PLACES 16
+#define VALUES 16
 #define ROUNDS 4096
 /* Where the trailer has the output node. */
 #define OUTPUT 12
@@ -34,7 +35,7 @@ static void evaluate(void *lent)
     struct lent *at = lent;
     int64_t here = at->volts[node], sum = 0;
     for (int64_t i = 0; i < ROUNDS; i++) {
-        at->volts[node] = here + i % PLACES - PLACES / 2;
+        at->volts[node] = here + i % VALUES - VALUES / 2;
         sum += bench_net(at->board, at->stretches, at->stored, at->volts, node);
     }
     at->volts[node] = here;

@@ -52,16 +52,17 @@ def cells(name, build, runs, before):
         (ours,), (floats,) = said(BENCH / "time", "--time", runs, *files), said(BENCH / "float", "--time", runs, *files)
         if before:
             (theirs,) = said(BENCH / "time-before", "--time", runs, *files)
-            yield from (f"{theirs:,.0f}", f"{ours / theirs:.2f}")
-        yield from (f"{ours:,.0f}", f"{1e9 / RATE / ours:,.3g}", f"{floats:,.0f}", f"{ours / floats:,.1f}")
+            yield from (f"{theirs:,.0f}", f"{ours:,.0f}", f"{ours / theirs:.2f}")
+        else:
+            yield f"{ours:,.0f}"
+        yield from (f"{1e9 / RATE / ours:,.3g}", f"{floats:,.0f}", f"{ours / floats:,.1f}")
 
 
 def main(path, runs, before):
     heads = ["circuit", "free nodes", "elements", "samples", "evaluations, mean", "most"]
-    if before:
-        heads += ["ns a sample before", "after / before"]
     if runs:
-        heads += ["ns a sample", "times real time at 48 kHz", "f64: ns a sample", "ours / f64"]
+        heads += ["ns a sample before", "ns a sample", "after / before"] if before else ["ns a sample"]
+        heads += ["times real time at 48 kHz", "f64: ns a sample", "ours / f64"]
     for row in heads, ["---"] * len(heads):
         print(f"| {' | '.join(row)} |", flush=True)
     for name, build in builds(path).items():
