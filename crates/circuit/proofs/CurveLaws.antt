@@ -1,11 +1,11 @@
 -- What the current of a curve and its greatest slope rest on. Assumes nothing.
-use mathlib.Core.Path.{_≡_, refl, sym, ap}
+use mathlib.Core.Path.{_≡_, refl, sym, _∙_, ap}
 use mathlib.Core.List.{List, [], _∷_}
-use Prim.Native.Nat.{ℕ, zero, suc, _+_, _^_, _≤_, _<_, max}
+use Prim.Native.Nat.{ℕ, zero, suc, _+_, _*_, _^_, _≤_, _<_, max}
 use native.Mathlib.Omega.{arith}
 use lib.IntN.{ℤ, pos, natAbs, _+ℤ_, _-ℤ_, _*ℤ_}
 use lib.ListN.{length, getD, drop}
-use lib.Seq.{drop-cons}
+use lib.Seq.{drop-cons, ext-getD}
 use Rattle.units.specs.Voltage.{Within}
 use Rattle.units.proofs.Integers.{signs, add-law, sub-law}
 use Rattle.units.proofs.Sizes.{abs-sub}
@@ -33,6 +33,16 @@ module _ (stretches : List ℤ) (first m : ℕ) where
   pub breakpoint-in : (j : ℕ) → j < m → reading (breakpointsIn stretches first m) j ≡ breakpointIn stretches (first + j)
   unfolding breakpointsIn
   breakpoint-in j h = tabulate-at (λ (i : ℕ). breakpointIn stretches (first + i)) m j (pos 0) h
+
+  -- the curve's breakpoints are those that its rows begin with
+  pub breakpoints-from : (bs : List ℤ) → length bs ≡ m → ((i : ℕ) → i < m → reading stretches (3 * (first + i) + 0) ≡ reading bs i) → breakpointsIn stretches first m ≡ bs
+  breakpoints-from bs long begins = ext-getD (pos 0) (breakpointsIn stretches first m) bs (breakpoints-in ∙ sym long) (λ i h. each i (omega (arith, breakpoints-in)))
+    where
+      zero-place : (a : ℕ) → a ≡ a + 0
+      zero-place a = omega arith
+
+      each : (i : ℕ) → i < m → reading (breakpointsIn stretches first m) i ≡ reading bs i
+      each i h = breakpoint-in i h ∙ ap (reading stretches) (zero-place (3 * (first + i))) ∙ begins i h
 
   -- ---- the greatest slope, looked for from the last on
 

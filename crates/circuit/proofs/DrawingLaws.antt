@@ -1,5 +1,5 @@
 -- What putting a curve into the table of stretches rests on. Assumes nothing.
-use mathlib.Core.Path.{_≡_, refl, sym, _∙_, ap}
+use mathlib.Core.Path.{_≡_, refl, _∙_, ap}
 use mathlib.Core.List.{List, [], _∷_}
 use mathlib.Core.Logic.{_⊎_, inl, inr, ⊎-elim}
 use Prim.Native.Nat.{ℕ, zero, suc, _+_, _*_, _^_, _≤_, _<_}
@@ -7,7 +7,7 @@ use native.Mathlib.Numerals.{add-one}
 use native.Mathlib.Omega.{arith}
 use lib.IntN.{ℤ, pos, natAbs, _+ℤ_, _-ℤ_, _*ℤ_}
 use lib.ListN.{length, getD, set, length-set}
-use lib.Seq.{getD-set-same, getD-set-other, ext-getD}
+use lib.Seq.{getD-set-same, getD-set-other}
 use borrow.Author.Tests.{le-leb}
 use Rattle.units.specs.Voltage.{Within}
 use Rattle.units.proofs.Integers.{decideN}
@@ -17,7 +17,7 @@ use Rattle.units.proofs.Tables.{tabulate-length, tabulate-at, overlaid-length, 
 use Rattle.network.specs.Network.{reading, breakpointLimit, conductanceLimit, Rising, CurveInLimits}
 use Rattle.network.proofs.Ranges.{product-fits}
 use Rattle.circuit.specs.Stretch.{stretchOf, offset, atZero, atZeroIn, breakpointsIn, slopesTo, breakpointsTo, rowNumber, drawnNumber, Rows, Drawn, Lowered, Filled}
-use Rattle.circuit.proofs.CurveLaws.{breakpoints-in, breakpoint-in}
+use Rattle.circuit.proofs.CurveLaws.{breakpoints-from}
 
 -- ---- a curve in arrays of its own, from which the table is filled
 
@@ -130,15 +130,7 @@ module _ (before : List ℤ) (first : ℕ) (current : ℤ) where
 module _ (ss : List ℕ) (bs : List ℤ) (m : ℕ) (long : length bs ≡ m) (before mid : List ℤ) (first : ℕ) (drawn : Drawn ss bs before first (m + 1) mid) where
   pub drawn-breakpoints : breakpointsIn mid first m ≡ bs
   unfolding drawnNumber
-  drawn-breakpoints = ext-getD (pos 0) (breakpointsIn mid first m) bs (breakpoints-in mid first m ∙ sym long) (λ i h. each i (omega (arith, breakpoints-in mid first m)))
-    where
-      zero-place : (a : ℕ) → a ≡ a + 0
-      zero-place a = omega arith
-
-      each : (i : ℕ) → i < m → reading (breakpointsIn mid first m) i ≡ reading bs i
-      each i h =
-          let here : reading mid (3 * (first + i) + 0) ≡ reading bs i = drawn .row i 0 (omega arith) (omega arith) in
-          breakpoint-in mid first m i h ∙ ap (reading mid) (zero-place (3 * (first + i))) ∙ here
+  drawn-breakpoints = breakpoints-from mid first m bs long (λ i h. drawn .row i 0 (omega arith) (omega arith))
 
   pub drawn-line : (i : ℕ) → i ≤ m → atZeroIn mid (first + i) ≡ offset ss bs i
   unfolding drawnNumber

@@ -10,14 +10,13 @@ use lib.Seq.{ext-getD}
 use borrow.Author.Tests.{ne-eqb, le-leb, lt-leb, le-ltb}
 use Rattle.units.specs.Table.{tabulate, padded}
 use Rattle.units.proofs.Integers.{decideN}
-use Rattle.units.proofs.Tables.{tabulate-length, tabulate-at, padded-at, padded-past, padded-length, padded-is, padded-rest}
+use Rattle.units.proofs.Tables.{tabulate-length, padded-at, padded-past, padded-length, padded-is, padded-rest}
 use Rattle.network.specs.Network.{reading, CurveInLimits}
 use Rattle.image.specs.Parts.{noCurve, curveOf, slopesOf, breakpointsOf}
-use Rattle.image.specs.Sound.{Sound}
 use Rattle.image.specs.declared.parts.Curve.{Curve}
 use Rattle.image.specs.declared.parts.Parts.{Parts}
 use Rattle.circuit.specs.Stretch.{stretchesSize, offset, atZero, stretchOf, slopesIn, breakpointsIn, slopesTo, breakpointsTo, rowNumber, CurveReady, Filled}
-use Rattle.circuit.proofs.CurveLaws.{slopes-in, breakpoints-in, slope-in, breakpoint-in}
+use Rattle.circuit.proofs.CurveLaws.{slopes-in, slope-in, breakpoints-from}
 use Rattle.opening.specs.Opening.{tableNumber, stretchesOf}
 
 -- a curve's lists are those that the table is filled from
@@ -86,18 +85,7 @@ module _ (parts : Parts) where
 
     pub breakpoints-are : breakpointsIn (stretchesOf parts) (17 * c) m ≡ breakpointsOf (curveOf parts c)
     unfolding rowNumber
-    breakpoints-are =
-        ext-getD (pos 0) (breakpointsIn (stretchesOf parts) (17 * c) m) (breakpointsOf (curveOf parts c)) (breakpoints-in (stretchesOf parts) (17 * c) m ∙ sym (breakpoints-long (curveOf parts c)))
-        (λ i h. each i (omega (arith, breakpoints-in (stretchesOf parts) (17 * c) m)))
-      where
-        zero-place : (a : ℕ) → a ≡ a + 0
-        zero-place a = omega arith
-
-        each : (i : ℕ) → i < m → reading (breakpointsIn (stretchesOf parts) (17 * c) m) i ≡ reading (breakpointsOf (curveOf parts c)) i
-        each i h = breakpoint-in (stretchesOf parts) (17 * c) m i h ∙ ap (reading (stretchesOf parts)) (zero-place (3 * (17 * c + i))) ∙ first-number i h
-          where
-            first-number : (i : ℕ) → i < m → reading (stretchesOf parts) (3 * (17 * c + i) + 0) ≡ reading (breakpointsOf (curveOf parts c)) i
-            first-number i h = row-at c i 0 there (omega arith) (omega arith)
+    breakpoints-are = breakpoints-from (stretchesOf parts) (17 * c) m (breakpointsOf (curveOf parts c)) (breakpoints-long (curveOf parts c)) (λ i h. row-at c i 0 there (omega arith) (omega arith))
 
     pub curve-ready : CurveInLimits (slopesOf (curveOf parts c)) (breakpointsOf (curveOf parts c)) → CurveReady (stretchesOf parts) (17 * c) m
     unfolding rowNumber
