@@ -31,19 +31,9 @@ def held(curves, name, v):
     return describe.Build([line.split() for line in lines])
 
 
-def timed(program, files, runs, before):
-    """The cells of a program's time, with --before also of the other block's and of how ours is to it."""
-    name, *words = program
-    times = [table.said(table.BENCH / f"{name}{block}", *words, runs, *files)[0] for block in (["-before", ""] if before else [""])]
-    cells = [f"{time:,.1f}" if time < 100 else f"{time:,.0f}" for time in times]
-    return [*cells, f"{times[1] / times[0]:.2f}"] if before else cells
-
-
 def main(runs, before):
-    heads = ["breakpoints", "stretch"]
-    for kind in "net current", "sample":
-        heads += [f"ns a {kind} before", f"ns a {kind}", "after / before"] if before else [f"ns a {kind}"]
-    for row in heads, ["---"] * len(heads):
+    names = ["breakpoints", "stretch", *table.heads("net current", before), *table.heads("sample", before)]
+    for row in names, ["---"] * len(names):
         print(f"| {' | '.join(row)} |", flush=True)
     curves = table.builds(table.HERE / "growth.txt")["breakpoints_16"].curves
     for length in LENGTHS:
@@ -52,8 +42,8 @@ def main(runs, before):
             if length == 1 and place == "middle":
                 continue
             files = table.written(held(curves, f"B{length}", v))
-            nets, samples = timed(["net"], files, runs, before), timed(["time", "--time"], files, runs, before)
-            print(f"| {' | '.join([str(length), place, *nets, *samples])} |", flush=True)
+            nets, samples = table.times("net", [runs, *files], before), table.times("time", ["--time", runs, *files], before)
+            print(f"| {' | '.join([str(length), place, *table.columns(nets), *table.columns(samples)])} |", flush=True)
 
 
 if __name__ == "__main__":

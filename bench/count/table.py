@@ -43,27 +43,38 @@ def written(build):
     return files
 
 
+def times(program, words, before):
+    """The nanoseconds that a program tells, ours last; with `before`, those of the other block's program first."""
+    return [said(BENCH / f"{program}{block}", *words)[0] for block in (["-before", ""] if before else [""])]
+
+
+def heads(what, before):
+    """The heads of such times' columns."""
+    return [f"ns a {what} before", f"ns a {what}", "after / before"] if before else [f"ns a {what}"]
+
+
+def columns(times):
+    """Their cells: few nanoseconds with a tenth, and of two times how the second is to the first."""
+    cells = [f"{time:,.1f}" if time < 20 else f"{time:,.0f}" for time in times]
+    return [*cells, f"{times[1] / times[0]:.2f}"] if len(times) == 2 else cells
+
+
 def cells(name, build, runs, before):
     files = written(build)
     free = build.fields["nodes"] - build.fields["drives"]
     mean, greatest = said(BENCH / "count", *files)
     yield from (name.replace("_", " "), f"{free}", f"{len(build.elements)}", f"{build.samples:,}", f"{mean:,.1f}", f"{greatest:,.0f}")
     if runs:
-        (ours,), (floats,) = said(BENCH / "time", "--time", runs, *files), said(BENCH / "float", "--time", runs, *files)
-        if before:
-            (theirs,) = said(BENCH / "time-before", "--time", runs, *files)
-            yield from (f"{theirs:,.0f}", f"{ours:,.0f}", f"{ours / theirs:.2f}")
-        else:
-            yield f"{ours:,.0f}"
-        yield from (f"{1e9 / RATE / ours:,.3g}", f"{floats:,.0f}", f"{ours / floats:,.1f}")
+        taken = times("time", ["--time", runs, *files], before)
+        (floats,), ours = said(BENCH / "float", "--time", runs, *files), taken[-1]
+        yield from (*columns(taken), f"{1e9 / RATE / ours:,.3g}", f"{floats:,.0f}", f"{ours / floats:,.1f}")
 
 
 def main(path, runs, before):
-    heads = ["circuit", "free nodes", "elements", "samples", "evaluations, mean", "most"]
+    names = ["circuit", "free nodes", "elements", "samples", "evaluations, mean", "most"]
     if runs:
-        heads += ["ns a sample before", "ns a sample", "after / before"] if before else ["ns a sample"]
-        heads += ["times real time at 48 kHz", "f64: ns a sample", "ours / f64"]
-    for row in heads, ["---"] * len(heads):
+        names += [*heads("sample", before), "times real time at 48 kHz", "f64: ns a sample", "ours / f64"]
+    for row in names, ["---"] * len(names):
         print(f"| {' | '.join(row)} |", flush=True)
     for name, build in builds(path).items():
         print(f"| {' | '.join(cells(name, build, runs, before))} |", flush=True)
