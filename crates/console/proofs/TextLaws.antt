@@ -14,17 +14,10 @@ use lib.Signed.{ltZ}
 use borrow.Author.Tests.{ltb-true, ltb-false, lt-ltb}
 use Rattle.io.specs.Digits.{glyph, digits, Fewest}
 use Rattle.units.specs.Table.{overlaid}
+use Rattle.units.proofs.Tables.{overlaid-append}
 use Rattle.console.specs.Text.{decimalIn, decimal, sign, Adds}
 
 -- ---- texts in a buffer
-
--- one text after another is both at once
-pub overlaid-append : (l : List ℕ) (at : ℕ) (v w : List ℕ) → overlaid (overlaid l at v) (at + length v) w ≡ overlaid l at (v ++ w)
-unfolding overlaid
-overlaid-append l at [] w = let e : at + 0 ≡ at = omega arith in ap (λ (k : ℕ). overlaid l k w) e
-overlaid-append l at (x ∷ v) w =
-    let e : at + suc (length v) ≡ at + 1 + length v = omega arith in
-    ap (λ (k : ℕ). overlaid (overlaid (set l at x) (at + 1) v) k w) e ∙ overlaid-append (set l at x) (at + 1) v w
 
 -- no text yet, and one byte more of a word
 pub overlaid-none : (l : List ℕ) (at : ℕ) (w : List ℕ) → l ≡ overlaid l at (take 0 w)

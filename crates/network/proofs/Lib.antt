@@ -13,4 +13,5 @@ pub mod Exists
 pub mod Louder
 pub mod Demand3
 pub mod Ranges
+pub mod Elements
 pub mod Cases

@@ -1,5 +1,6 @@
 pub mod Network
 pub mod Kind
+pub mod Elements
 pub mod Sample
 pub mod Bound
 pub mod Search

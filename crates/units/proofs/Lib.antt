@@ -6,6 +6,7 @@ pub mod Joined
 pub mod LittleEndian
 pub mod Machine
 pub mod Numbers
+pub mod NumbersWhere
 pub mod RatioLaws
 pub mod Rounding
 pub mod Sizes

@@ -40,6 +40,11 @@ pub sum-more : (f : ℕ → ℤ) (n : ℕ) → sum f (n + 1) ≡ sum f n +ℤ f 
 unfolding sum
 sum-more f n = rw add-one
 
+pub sum-same : (f g : ℕ → ℤ) (n : ℕ) → ((i : ℕ) → i < n → f i ≡ g i) → sum f n ≡ sum g n
+unfolding sum
+sum-same f g zero h = refl
+sum-same f g (suc n) h = rw (sum-same f g n (λ i l. h i (omega arith)), h n (omega arith))
+
 pub sum-abs : (f : ℕ → ℤ) (b n : ℕ) → ((i : ℕ) → i < n → natAbs (f i) ≤ b) → natAbs (sum f n) ≤ n * b
 unfolding sum
 sum-abs f b zero h = omega arith
@@ -52,6 +57,21 @@ total-none f = refl
 pub total-more : (f : ℕ → ℕ) (n : ℕ) → total f (n + 1) ≡ total f n + f n
 unfolding total
 total-more f n = rw add-one
+
+pub total-same : (f g : ℕ → ℕ) (n : ℕ) → ((i : ℕ) → i < n → f i ≡ g i) → total f n ≡ total g n
+unfolding total
+total-same f g zero h = refl
+total-same f g (suc n) h = rw (total-same f g n (λ i l. h i (omega arith)), h n (omega arith))
+
+pub total-both : (f g : ℕ → ℕ) (n : ℕ) → total (λ (i : ℕ). f i + g i) n ≡ total f n + total g n
+unfolding total
+total-both f g zero = refl
+total-both f g (suc n) = omega (arith, total-both f g n)
+
+pub total-under : (f g : ℕ → ℕ) (n : ℕ) → ((i : ℕ) → i < n → f i ≤ g i) → total f n ≤ total g n
+unfolding total
+total-under f g zero h = omega arith
+total-under f g (suc n) h = omega (arith, total-under f g n (λ i l. h i (omega arith)), h n (omega arith))
 
 pub total-small : (f : ℕ → ℕ) (b n : ℕ) → ((i : ℕ) → i < n → f i ≤ b) → total f n ≤ n * b
 unfolding total

@@ -1,7 +1,7 @@
 -- Laws of lists that are made place by place: `tabulate`, and the padded arrays that the code fills. Assumes nothing.
 use mathlib.Core.Path.{_≡_, refl, sym, _∙_, ap}
 use mathlib.Core.Bool.{cond}
-use mathlib.Core.List.{List, [], _∷_}
+use mathlib.Core.List.{List, [], _∷_, _++_}
 use mathlib.Core.Logic.{_⊎_, inl, inr, ⊎-elim}
 use Prim.Native.Nat.{ℕ, zero, suc, _+_, _≤_, _<_}
 use native.Mathlib.Omega.{arith}
@@ -117,6 +117,14 @@ overlaid-at l at (v ∷ values) d zero i room h e =
     let is : i ≡ at = omega arith in
     rw is (overlaid-else (set l at v) (at + 1) values d at (inl (omega arith)) ∙ getD-set-same l at v d (omega arith))
 overlaid-at l at (v ∷ values) d (suc k) i room h e = overlaid-at (set l at v) (at + 1) values d k i (simp length-set (omega arith)) (omega arith) (omega arith)
+
+-- one part after the other
+pub overlaid-append {ℓ} : {A : Type ℓ} (l : List A) (at : ℕ) (v w : List A) → overlaid (overlaid l at v) (at + length v) w ≡ overlaid l at (v ++ w)
+unfolding overlaid
+overlaid-append l at [] w = let e : at + 0 ≡ at = omega arith in ap (λ (k : ℕ). overlaid l k w) e
+overlaid-append l at (x ∷ v) w =
+    let e : at + suc (length v) ≡ at + 1 + length v = omega arith in
+    ap (λ (k : ℕ). overlaid (overlaid (set l at x) (at + 1) v) k w) e ∙ overlaid-append (set l at x) (at + 1) v w
 
 -- ---- padded, more places at a time
 

@@ -1,6 +1,6 @@
 -- Lists that are made place by place. Assumes nothing.
 use mathlib.Core.Bool.{Bool, true, cond, _&&_}
-use mathlib.Core.List.{List, [], _∷_}
+use mathlib.Core.List.{List, [], _∷_, _++_}
 use Prim.Native.Nat.{ℕ, zero, suc, _+_}
 use lib.Dec.{leb, ltb}
 use lib.ListN.{set}
@@ -27,3 +27,8 @@ between low high n = leb low n && leb n high
 unfoldable pub every : (ℕ → Bool) → ℕ → Bool
 every f zero = true
 every f (suc n) = every f n && f n
+
+-- of the numbers below n those of which f holds, in rising order
+unfoldable pub numbersWhere : (ℕ → Bool) → ℕ → List ℕ
+numbersWhere f zero = []
+numbersWhere f (suc n) = numbersWhere f n ++ cond (f n) (n ∷ []) []
