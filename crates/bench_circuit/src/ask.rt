@@ -20,7 +20,7 @@ pub struct Question {
     pub stored: [i64; 32],
 }
 
-fn all_in_range(board: &[u64; 212], volts: &[i64; 16]) -> bool
+fn all_in_range(board: &[u64; 293], volts: &[i64; 16]) -> bool
     requires { ⌜ nodesOn (now board) < 16 ⌝ }
     ensures { λ r. ⌜ (r ≡ true → Ranged (now (board .entry)) (now (volts .entry))) ⌝ }
 {
@@ -37,7 +37,7 @@ fn all_in_range(board: &[u64; 212], volts: &[i64; 16]) -> bool
     true
 }
 
-fn all_kept(board: &[u64; 212], stored: &[i64; 32]) -> bool
+fn all_kept(board: &[u64; 293], stored: &[i64; 32]) -> bool
     requires { ⌜ countOn (now board) ≤ 32 ⌝ }
     ensures { λ r. ⌜ (r ≡ true → Kept (now (board .entry)) (now (stored .entry))) ⌝ }
 {
@@ -51,7 +51,7 @@ fn all_kept(board: &[u64; 212], stored: &[i64; 32]) -> bool
     true
 }
 
-fn of_board(board: &[u64; 212], stretches: &[i64; 408], q: Question)
+fn of_board(board: &[u64; 293], stretches: &[i64; 408], q: Question)
     requires { ⌜ Ready (now board) (now stretches) ⌝ }
 {
     let volts = q.volts;

@@ -216,6 +216,14 @@ fn all_driven() {
     sample(i, b"0 16777216 -16777216", b"0 -5");
 }
 
+// 10,000 pF between two driven nodes, two samples: it is under no free node, and its stored current moves.
+fn drives() {
+    let i = hex(b"0201020010270000 080000000100020280BB000002011000");
+    circuit(b"capacitor between drives", i);
+    sample(i, b"0 1000000 -500000", b"");
+    sample(i, b"0 -1000000 250000", b"2880000000000");
+}
+
 // The diode clipper: 2200 ohm from 1 to 2, 10,000 pF and two diodes, each way round, from 2 to ground.
 fn clipper() {
     let i = hex(
@@ -276,6 +284,7 @@ fn curves() {
 fn more() {
     lone();
     all_driven();
+    drives();
     clipper();
     large();
     refused();

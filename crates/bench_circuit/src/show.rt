@@ -31,7 +31,7 @@ fn one_signed(z: i64) {
 }
 
 // The least bound for e.
-fn least(board: &[u64; 212], stretches: &[i64; 408], e: u64)
+fn least(board: &[u64; 293], stretches: &[i64; 408], e: u64)
     requires { ⌜ Laid (now board) (now stretches) ⌝ }
 {
     match bound::least(board, stretches, e) {
@@ -45,7 +45,7 @@ fn least(board: &[u64; 212], stretches: &[i64; 408], e: u64)
 }
 
 // .. for no e, for one, and for the largest.
-fn bounds(board: &[u64; 212], stretches: &[i64; 408])
+fn bounds(board: &[u64; 293], stretches: &[i64; 408])
     requires { ⌜ Laid (now board) (now stretches) ⌝ }
 {
     text(b"  B");
@@ -58,7 +58,7 @@ fn bounds(board: &[u64; 212], stretches: &[i64; 408])
 }
 
 // The held conductance of every node, with ground.
-fn held(board: &[u64; 212], stretches: &[i64; 408])
+fn held(board: &[u64; 293], stretches: &[i64; 408])
     requires { ⌜ Laid (now board) (now stretches) ⌝ }
 {
     let nodes = board::nodes(board);
@@ -70,7 +70,7 @@ fn held(board: &[u64; 212], stretches: &[i64; 408])
 }
 
 // The steepest sum of every node, as it stands on the board.
-fn steepest(board: &[u64; 212]) {
+fn steepest(board: &[u64; 293]) {
     let nodes = board::nodes(board);
     for i in 0..16usize {
         if i <= nodes {
@@ -80,7 +80,7 @@ fn steepest(board: &[u64; 212]) {
 }
 
 // Held conductance and steepest sum of every node.
-fn nodes(board: &[u64; 212], stretches: &[i64; 408])
+fn nodes(board: &[u64; 293], stretches: &[i64; 408])
     requires { ⌜ Laid (now board) (now stretches) ⌝ }
 {
     text(b"  held");
@@ -91,7 +91,7 @@ fn nodes(board: &[u64; 212], stretches: &[i64; 408])
 }
 
 // What a circuit is by itself.
-pub fn circuit(board: &[u64; 212], stretches: &[i64; 408])
+pub fn circuit(board: &[u64; 293], stretches: &[i64; 408])
     requires { ⌜ Laid (now board) (now stretches) ⌝ }
 {
     nodes(board, stretches);
@@ -99,7 +99,7 @@ pub fn circuit(board: &[u64; 212], stretches: &[i64; 408])
 }
 
 // The current of every element.
-fn flows(board: &[u64; 212], stretches: &[i64; 408], stored: &[i64; 32], volts: &[i64; 16])
+fn flows(board: &[u64; 293], stretches: &[i64; 408], stored: &[i64; 32], volts: &[i64; 16])
     requires { ⌜ Evaluable (now board) (now stretches) (now stored) (now volts) ⌝ }
 {
     let count = board::count(board);
@@ -112,7 +112,7 @@ fn flows(board: &[u64; 212], stretches: &[i64; 408], stored: &[i64; 32], volts: 
 }
 
 // The net current of every node, with ground.
-fn nets(board: &[u64; 212], stretches: &[i64; 408], stored: &[i64; 32], volts: &[i64; 16])
+fn nets(board: &[u64; 293], stretches: &[i64; 408], stored: &[i64; 32], volts: &[i64; 16])
     requires { ⌜ Evaluable (now board) (now stretches) (now stored) (now volts) ⌝ }
 {
     let nodes = board::nodes(board);
@@ -134,7 +134,7 @@ fn row(x: &[i64; 32], n: usize) {
 }
 
 // The stored currents after a sample.
-fn advanced(board: &[u64; 212], stretches: &[i64; 408], volts: &[i64; 16], stored: &mut [i64; 32])
+fn advanced(board: &[u64; 293], stretches: &[i64; 408], volts: &[i64; 16], stored: &mut [i64; 32])
     requires { ⌜ Evaluable (now board) (now stretches) (now stored) (now volts) × (length (now stored) ≡ 32) ⌝ }
 {
     match advance::advance(board, stretches, volts, stored) {
@@ -150,7 +150,7 @@ fn advanced(board: &[u64; 212], stretches: &[i64; 408], volts: &[i64; 16], store
 }
 
 // What a circuit does at these voltages with these stored currents.
-pub fn sample(board: &[u64; 212], stretches: &[i64; 408], volts: &[i64; 16], stored: &mut [i64; 32])
+pub fn sample(board: &[u64; 293], stretches: &[i64; 408], volts: &[i64; 16], stored: &mut [i64; 32])
     requires { ⌜ Evaluable (now board) (now stretches) (now stored) (now volts) × (length (now stored) ≡ 32) ⌝ }
 {
     flows(board, stretches, stored, volts);

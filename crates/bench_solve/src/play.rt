@@ -106,7 +106,7 @@ fn propose(which: u64, driven: usize, d: i64, last: &[i64; 16]) -> [i64; 16] {
 
 // One sample on a copy of the stored currents: its number.
 fn attempt(
-    board: &[u64; 212],
+    board: &[u64; 293],
     stretches: &[i64; 408],
     stored: &[i64; 32],
     volts: &mut [i64; 16],
@@ -133,7 +133,7 @@ fn alike(nodes: usize, a: &[i64; 16], b: &[i64; 16]) -> bool {
 
 // Whether all proposals come to the same: one number, and one answer where there is any.
 fn agree(
-    board: &[u64; 212],
+    board: &[u64; 293],
     stretches: &[i64; 408],
     stored: &[i64; 32],
     d: i64,
@@ -161,7 +161,7 @@ fn agree(
 
 // A sample on the stored currents themselves, from the last answer: its number.
 fn advanced(
-    board: &[u64; 212],
+    board: &[u64; 293],
     stretches: &[i64; 408],
     stored: &mut [i64; 32],
     d: i64,
@@ -251,7 +251,7 @@ fn tell(number: u64, nodes: usize, volts: &[i64; 16]) {
 }
 
 // n samples.
-fn samples(board: &[u64; 212], stretches: &[i64; 408], stored: &mut [i64; 32], n: u64)
+fn samples(board: &[u64; 293], stretches: &[i64; 408], stored: &mut [i64; 32], n: u64)
     requires { ⌜ Playable (now board) (now stretches) (now stored) ⌝ }
 {
     let nodes = board::nodes(board);
@@ -275,7 +275,7 @@ fn samples(board: &[u64; 212], stretches: &[i64; 408], stored: &mut [i64; 32], n
 }
 
 // One sample of drive d: from all proposals, those beside its own answer among them.
-fn once(board: &[u64; 212], stretches: &[i64; 408], stored: &mut [i64; 32], d: i64)
+fn once(board: &[u64; 293], stretches: &[i64; 408], stored: &mut [i64; 32], d: i64)
     requires { ⌜ Playable (now board) (now stretches) (now stored) ⌝ }
 {
     let zeros = [0i64; 16];

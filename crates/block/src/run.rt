@@ -17,7 +17,7 @@ ghost use Rattle.block.specs.Playing.{Driven, Room, Ran};
 // Where sample j begins: its drives at the driven nodes, and at the free nodes a guess, which may be
 // anything.
 fn begin(
-    board: &[u64; 212],
+    board: &[u64; 293],
     stretches: &[i64; 408],
     drives: &[u8],
     j: usize,
@@ -33,7 +33,7 @@ fn begin(
 
 // Sample j: its voltages and the stored currents after it.
 fn next(
-    board: &[u64; 212],
+    board: &[u64; 293],
     stretches: &[i64; 408],
     drives: &[u8],
     j: usize,
@@ -50,7 +50,7 @@ fn next(
 // All samples, each from the voltages of the one before it. What comes back is the number times
 // 65,536 and the count of the accepted ones.
 pub fn run(
-    board: &[u64; 212],
+    board: &[u64; 293],
     stretches: &[i64; 408],
     output: usize,
     n: usize,

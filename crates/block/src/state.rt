@@ -57,7 +57,7 @@ fn legal_at(kind: u64, x: i64) -> bool
 }
 
 // Whether all stored currents are legal.
-pub fn legal(board: &[u64; 212], x: &[i64; 32]) -> bool
+pub fn legal(board: &[u64; 293], x: &[i64; 32]) -> bool
     requires { ⌜ length (now x) ≡ 32 ⌝ }
     ensures { λ r. ⌜ ((stretches : List ℤ) → Decides r (StateLegal (networkOn (now (board .entry)) stretches) (stateOf (now (x .entry))))) ⌝ }
 {

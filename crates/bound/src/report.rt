@@ -34,7 +34,7 @@ fn put_column(text: &mut [u8], at: usize, n: u64) -> usize
 fn put_node(
     text: &mut [u8],
     at: usize,
-    board: &[u64; 212],
+    board: &[u64; 293],
     stretches: &[i64; 408],
     i: usize,
 ) -> usize
@@ -52,7 +52,7 @@ fn put_node(
 }
 
 // A line for each free node, at the start of `text`.
-fn put_nodes(text: &mut [u8], board: &[u64; 212], stretches: &[i64; 408]) -> usize
+fn put_nodes(text: &mut [u8], board: &[u64; 293], stretches: &[i64; 408]) -> usize
     requires { ⌜ Laid (now board) (now stretches) × (1260 ≤ length (now text)) ⌝ }
     ensures { λ r. ⌜ Adds (freeLines (networkOn (now (board .entry)) (now (stretches .entry)))) 1260 0 (now (text .entry)) r (now (text .exit)) ⌝ }
 {
@@ -67,7 +67,7 @@ fn put_nodes(text: &mut [u8], board: &[u64; 212], stretches: &[i64; 408]) -> usi
 }
 
 // The greatest B; 0 where there is no free node.
-fn greatest(board: &[u64; 212], stretches: &[i64; 408]) -> u64
+fn greatest(board: &[u64; 293], stretches: &[i64; 408]) -> u64
     requires { ⌜ Laid (now board) (now stretches) ⌝ }
     ensures { λ r. ⌜ Greatest (networkOn (now (board .entry)) (now (stretches .entry))) r ⌝ }
 {

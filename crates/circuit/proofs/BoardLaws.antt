@@ -1,25 +1,22 @@
 -- What a board that is ready says of its elements. Assumes nothing.
-use mathlib.Core.Path.{_≡_, refl, sym, _∙_, ap}
-use mathlib.Core.Bool.{Bool, true, false}
+use mathlib.Core.Path.{_≡_, refl, ap}
+use mathlib.Core.Bool.{Bool, true, false, cond}
 use mathlib.Core.List.{List}
-use Prim.Native.Nat.{ℕ, _+_, _*_, _^_, _≤_, _<_}
-use native.Mathlib.Nat.{mul-le-mul}
+use Prim.Native.Nat.{ℕ, _/_, _%_, _≤_, _<_}
 use native.Mathlib.Omega.{arith}
 use lib.Dec.{eqb}
-use lib.IntN.{ℤ, pos, negℤ, natAbs, _+ℤ_, _*ℤ_, _-ℤ_, +ℤ-idr, +ℤ-assoc}
-use Rattle.units.specs.Integer.{sum, total}
-use Rattle.units.specs.Voltage.{Within, voltageLimit}
+use lib.IntN.{ℤ, pos, natAbs, _*ℤ_, _-ℤ_}
+use Rattle.units.specs.Voltage.{Within}
 use Rattle.units.proofs.Integers.{scale-one}
-use Rattle.units.proofs.Sizes.{sum-more, total-grows}
-use Rattle.network.specs.Network.{Branch, conductance, curve, pick, reading, current, leaving, net, conductanceOf, greatest, steepestOf, heldBy, held, steepestBy, steepest, conductanceLimit, breakpointLimit, leakLimit, currentBound}
-use Rattle.network.proofs.Ranges.{difference-fits, current-fits, leaving-fits, partial-sum-small, held-fits, steepest-fits}
+use Rattle.network.specs.Network.{conductance, curve, pick, reading, current, conductanceOf, greatest, steepestOf, conductanceLimit, breakpointLimit, currentBound}
+use Rattle.network.proofs.Ranges.{difference-fits, current-fits}
 use Rattle.network.specs.Kind.{hasCurve}
 use Rattle.circuit.specs.Stretch.{slopesIn, breakpointsIn, curveCurrent}
 use Rattle.circuit.specs.declared.branch.End.{End}
 use Rattle.circuit.specs.declared.branch.End.the-variants.{P, Q, Neither}
-use Rattle.circuit.specs.Board.{leakOn, nodesOn, countOn, kindOn, pOn, qOn, conductanceOn, firstOn, breakpointsOn, branchOn, networkOn, plainConductance, Laid, Ranged, Evaluable, Ends, acrossOn, flowOn, heldFrom, endAt}
+use Rattle.circuit.specs.Board.{nodesOn, countOn, kindOn, pOn, qOn, conductanceOn, firstOn, breakpointsOn, branchOn, networkOn, plainConductance, Laid, Ranged, Evaluable, Ends, acrossOn, flowOn, otherOn}
 
--- ---- which end a node is, and what a branch has there
+-- ---- which end a node is
 
 -- the three are told apart
 code : End → ℕ
@@ -86,43 +83,6 @@ module _ (board : List ℕ) (stretches : List ℤ) (j : ℕ) where
       go true e = rw e
       go false e = rw e
 
--- .. at node i, by the end that it is
-module _ (board : List ℕ) (stretches : List ℤ) (j i : ℕ) where
-  abbrev b : Branch
-  b = branchOn board stretches j
-
-  abbrev s : ℕ
-  s = steepestOf (b .law)
-
-  held-by-is : heldBy (networkOn board stretches) b i ≡ pick (eqb i (pOn board j)) (eqb i (qOn board j)) (heldFrom board j (qOn board j)) (heldFrom board j (pOn board j)) 0
-  unfolding heldBy branchOn conductanceOf
-  held-by-is = go (hasCurve (kindOn board j)) refl
-    where
-      go : (t : Bool) → hasCurve (kindOn board j) ≡ t → heldBy (networkOn board stretches) b i ≡ pick (eqb i (pOn board j)) (eqb i (qOn board j)) (heldFrom board j (qOn board j)) (heldFrom board j (pOn board j)) 0
-      go true e = rw e
-      go false e = rw e
-
-  pub held-p : P ≡ endAt board j i → heldFrom board j (qOn board j) ≡ heldBy (networkOn board stretches) b i
-  held-p e = sym (held-by-is ∙ end-p (heldFrom board j (qOn board j)) (heldFrom board j (pOn board j)) 0 (eqb i (pOn board j)) (eqb i (qOn board j)) e)
-
-  pub held-q : Q ≡ endAt board j i → heldFrom board j (pOn board j) ≡ heldBy (networkOn board stretches) b i
-  held-q e = sym (held-by-is ∙ end-q (heldFrom board j (qOn board j)) (heldFrom board j (pOn board j)) 0 (eqb i (pOn board j)) (eqb i (qOn board j)) e)
-
-  pub held-neither : Neither ≡ endAt board j i → 0 ≡ heldBy (networkOn board stretches) b i
-  held-neither e = sym (held-by-is ∙ end-neither (heldFrom board j (qOn board j)) (heldFrom board j (pOn board j)) 0 (eqb i (pOn board j)) (eqb i (qOn board j)) e)
-
-  pub steepest-p : P ≡ endAt board j i → s ≡ steepestBy b i
-  unfolding steepestBy branchOn
-  steepest-p e = sym (end-p s s 0 (eqb i (pOn board j)) (eqb i (qOn board j)) e)
-
-  pub steepest-q : Q ≡ endAt board j i → s ≡ steepestBy b i
-  unfolding steepestBy branchOn
-  steepest-q e = sym (end-q s s 0 (eqb i (pOn board j)) (eqb i (qOn board j)) e)
-
-  pub steepest-neither : Neither ≡ endAt board j i → 0 ≡ steepestBy b i
-  unfolding steepestBy branchOn
-  steepest-neither e = sym (end-neither s s 0 (eqb i (pOn board j)) (eqb i (qOn board j)) e)
-
 module _ (board : List ℕ) (stretches : List ℤ) (laid : Laid board stretches) where
   pub few-nodes : nodesOn board ≤ 15
   few-nodes = laid .limits .few-nodes
@@ -133,6 +93,21 @@ module _ (board : List ℕ) (stretches : List ℤ) (laid : Laid board stretches)
   module _ (j : ℕ) (there : j < countOn board) where
     pub conductance-fits : hasCurve (kindOn board j) ≡ false → conductanceOn board j ≤ conductanceLimit
     conductance-fits e = (rw (conductance-law board stretches j e) at (laid .limits .laws j there)) .1
+
+    -- whether it has a curve is told by its conductance
+    pub curve-told : conductanceOn board j ≡ 0 → hasCurve (kindOn board j) ≡ true
+    curve-told z = go (hasCurve (kindOn board j)) refl
+      where
+        go : (b : Bool) → hasCurve (kindOn board j) ≡ b → b ≡ true
+        go true e = refl
+        go false e = absurd (omega (arith, (rw (conductance-law board stretches j e) at (laid .limits .laws j there)) .0))
+
+    pub straight-told : (conductanceOn board j ≡ 0 → ⊥) → hasCurve (kindOn board j) ≡ false
+    straight-told some = go (hasCurve (kindOn board j)) refl
+      where
+        go : (b : Bool) → hasCurve (kindOn board j) ≡ b → b ≡ false
+        go true e = absurd (some (laid .no-conductance j there e))
+        go false e = refl
 
     pub p-node : pOn board j ≤ nodesOn board
     unfolding branchOn
@@ -154,91 +129,17 @@ module _ (board : List ℕ) (stretches : List ℤ) (laid : Laid board stretches)
     pub across-fits : (volts : List ℤ) → Ranged board volts → Within breakpointLimit (acrossOn board volts j)
     across-fits volts ranged = difference-fits (reading volts (pOn board j)) (reading volts (qOn board j)) (ranged (pOn board j) p-node) (ranged (qOn board j) q-node)
 
+  -- the other end is at a node too
+  pub other-node : (end : ℕ) → end / 2 < countOn board → otherOn board end ≤ nodesOn board
+  other-node end there = go (eqb (end % 2) 0)
+    where
+      go : (b : Bool) → cond b (qOn board (end / 2)) (pOn board (end / 2)) ≤ nodesOn board
+      go true = q-node (end / 2) there
+      go false = p-node (end / 2) there
+
 -- ---- at given voltages and stored currents
 
 module _ (board : List ℕ) (stretches stored volts : List ℤ) (given : Evaluable board stretches stored volts) where
   pub flow-fits : (j : ℕ) → j < countOn board → natAbs (flowOn board stretches stored volts j) ≤ currentBound
   unfolding branchOn
   flow-fits j there = current-fits (networkOn board stretches) (given .ready .laid .limits) (reading stored) (reading volts) (given .kept) (given .ranged) j there
-
--- what leaves node i by element j, by the end that it is
-module _ (board : List ℕ) (stretches stored volts : List ℤ) (j i : ℕ) where
-  abbrev c : ℤ
-  c = flowOn board stretches stored volts j
-
-  pub leaving-p : P ≡ endAt board j i → flowOn board stretches stored volts j ≡ leaving 1 (branchOn board stretches j) (reading stored j) (reading volts) i
-  unfolding leaving branchOn
-  leaving-p e = sym (end-p c (negℤ c) (pos 0) (eqb i (pOn board j)) (eqb i (qOn board j)) e)
-
-  pub leaving-q : Q ≡ endAt board j i → negℤ (flowOn board stretches stored volts j) ≡ leaving 1 (branchOn board stretches j) (reading stored j) (reading volts) i
-  unfolding leaving branchOn
-  leaving-q e = sym (end-q c (negℤ c) (pos 0) (eqb i (pOn board j)) (eqb i (qOn board j)) e)
-
-  pub leaving-neither : Neither ≡ endAt board j i → pos 0 ≡ leaving 1 (branchOn board stretches j) (reading stored j) (reading volts) i
-  unfolding leaving branchOn
-  leaving-neither e = sym (end-neither c (negℤ c) (pos 0) (eqb i (pOn board j)) (eqb i (qOn board j)) e)
-
--- ---- net current, as a loop over the elements adds it up
-
--- the leak's current and those of the first n elements
-unfoldable pub netTo : (board : List ℕ) (stretches stored volts : List ℤ) (i n : ℕ) → ℤ
-netTo board stretches stored volts i n = pos (leakOn board) *ℤ reading volts i +ℤ sum (λ (j : ℕ). leaving 1 (branchOn board stretches j) (reading stored j) (reading volts) i) n
-
-module _ (board : List ℕ) (stretches stored volts : List ℤ) (i : ℕ) where
-  pub net-none : netTo board stretches stored volts i 0 ≡ pos (leakOn board) *ℤ reading volts i
-  unfolding netTo sum
-  net-none = +ℤ-idr _
-
-  pub net-more : (n : ℕ) → netTo board stretches stored volts i (n + 1) ≡ netTo board stretches stored volts i n +ℤ leaving 1 (branchOn board stretches n) (reading stored n) (reading volts) i
-  unfolding netTo
-  net-more n = rw (sum-more (λ (j : ℕ). leaving 1 (branchOn board stretches j) (reading stored j) (reading volts) i) n, +ℤ-assoc)
-
-  pub net-all : netTo board stretches stored volts i (countOn board) ≡ net 1 (networkOn board stretches) (reading stored) (reading volts) i
-  unfolding netTo net
-  net-all = refl
-
-module _ (board : List ℕ) (stretches stored volts : List ℤ) (given : Evaluable board stretches stored volts) (i : ℕ) (there : i ≤ nodesOn board) where
-  pub leak-fits : leakOn board * natAbs (reading volts i) ≤ leakLimit * voltageLimit
-  leak-fits = mul-le-mul (given .ready .laid .limits .leak-small) (given .ranged i there)
-
-  -- one more element still fits
-  pub net-fits-more : (n : ℕ) → n < countOn board → natAbs (netTo board stretches stored volts i n) + natAbs (leaving 1 (branchOn board stretches n) (reading stored n) (reading volts) i) < 2 ^ 63
-  unfolding netTo
-  net-fits-more n l =
-      let N = networkOn board stretches in
-      let limits = given .ready .laid .limits in
-      omega (
-        arith,
-        few-elements board stretches (given .ready .laid),
-        partial-sum-small N limits (reading stored) (reading volts) (given .kept) (given .ranged) i n there (omega arith),
-        leaving-fits N limits (reading stored) (reading volts) (given .kept) (given .ranged) i n l,
-      )
-
--- ---- held conductance and steepest sum, as loops over the elements add them up
-
--- the leak, and what each of the first n elements adds
-abbrev pub added : List ℕ → (ℕ → ℕ) → ℕ → ℕ
-added board f n = leakOn board + total f n
-
--- what element j adds to each
-abbrev pub heldEach : List ℕ → List ℤ → ℕ → ℕ → ℕ
-heldEach board stretches i j = heldBy (networkOn board stretches) (branchOn board stretches j) i
-
-abbrev pub steepestEach : List ℕ → List ℤ → ℕ → ℕ → ℕ
-steepestEach board stretches i j = steepestBy (branchOn board stretches j) i
-
-module _ (board : List ℕ) (stretches : List ℤ) (laid : Laid board stretches) (i : ℕ) where
-  pub held-all : added board (heldEach board stretches i) (countOn board) ≡ held (networkOn board stretches) i
-  unfolding held
-  held-all = refl
-
-  pub steepest-all : added board (steepestEach board stretches i) (countOn board) ≡ steepest (networkOn board stretches) i
-  unfolding steepest
-  steepest-all = refl
-
-  -- one more element still fits
-  pub held-more-fits : (n : ℕ) → n < countOn board → added board (heldEach board stretches i) (n + 1) < 2 ^ 36
-  held-more-fits n l = omega (arith, total-grows (heldEach board stretches i) (n + 1) (countOn board) (omega arith), held-all, held-fits (networkOn board stretches) (laid .limits) i)
-
-  pub steepest-more-fits : (n : ℕ) → n < countOn board → added board (steepestEach board stretches i) (n + 1) < 2 ^ 36
-  steepest-more-fits n l = omega (arith, total-grows (steepestEach board stretches i) (n + 1) (countOn board) (omega arith), steepest-all, steepest-fits (networkOn board stretches) (laid .limits) i)

@@ -3,7 +3,10 @@ pub mod BoardLaws
 pub mod BoundLaws
 pub mod CurveLaws
 pub mod DrawingLaws
+pub mod FillingLaws
 pub mod Halving
+pub mod IndexLaws
+pub mod NodeLaws
 pub mod Once
 pub mod PlaceLaws
 pub mod StretchLaws

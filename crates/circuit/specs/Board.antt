@@ -1,24 +1,26 @@
 -- The board: a circuit's numbers in one array, as the functions that run for each sample borrow it, and beside it the table of its curves'
 -- stretches (Stretch). Assumes nothing.
--- Places 0 to 3: leak, nodes, driven nodes, elements. Then the steepest sum of every node. Then six places for each element: kind, end p,
--- end q, conductance (0 where it has a curve), and for a curve the row of its first stretch and how many breakpoints it has.
+-- Places 0 to 3: leak, nodes, driven nodes, elements. Then the steepest sum of every node, and the index (Index). Then six places for each
+-- element: kind, end p, end q, conductance (0 where it has a curve), and for a curve the row of its first stretch and how many breakpoints it has.
 use mathlib.Core.Path.{_≡_}
 use mathlib.Core.Bool.{true, cond}
 use mathlib.Core.List.{List}
-use Prim.Native.Nat.{ℕ, _+_, _*_, _≤_, _<_}
-use lib.IntN.{ℤ, pos, _-ℤ_}
+use Prim.Native.Nat.{ℕ, _+_, _*_, _-_, _/_, _%_, _≤_, _<_}
+use lib.IntN.{ℤ, negℤ, _-ℤ_}
 use lib.Dec.{eqb, leb}
 use lib.ListN.{length, getD}
 use Rattle.units.specs.Voltage.{Within, InRange}
 use Rattle.network.specs.Network.{Law, curve, conductance, current, pick, Branch, Network, Free, reading, steepest, InLimits, storedLimit}
 use Rattle.network.specs.Kind.{hasCurve, storeOf}
+use Rattle.network.specs.Elements.{touches}
 use Rattle.circuit.specs.declared.branch.End.{End}
 use Rattle.circuit.specs.declared.branch.End.the-variants.{P, Q, Neither}
+use Rattle.circuit.specs.Index.{endNumber, indexSize, indexNumber}
 use Rattle.circuit.specs.Stretch.{slopesIn, breakpointsIn, CurveReady}
 
 -- how many places it has
 abbrev pub boardSize : ℕ
-boardSize = 212
+boardSize = 293
 
 abbrev pub leakOn : List ℕ → ℕ
 leakOn board = getD board 0 0
@@ -35,23 +37,30 @@ countOn board = getD board 3 0
 abbrev pub steepestOn : List ℕ → ℕ → ℕ
 steepestOn board i = getD board (4 + i) 0
 
+-- where node i's ends begin, and the end at place k
+abbrev pub startOn : List ℕ → ℕ → ℕ
+startOn board i = getD board (20 + i) 0
+
+abbrev pub endOn : List ℕ → ℕ → ℕ
+endOn board k = getD board (37 + k) 0
+
 abbrev pub kindOn : List ℕ → ℕ → ℕ
-kindOn board j = getD board (20 + 6 * j) 0
+kindOn board j = getD board (101 + 6 * j) 0
 
 abbrev pub pOn : List ℕ → ℕ → ℕ
-pOn board j = getD board (21 + 6 * j) 0
+pOn board j = getD board (102 + 6 * j) 0
 
 abbrev pub qOn : List ℕ → ℕ → ℕ
-qOn board j = getD board (22 + 6 * j) 0
+qOn board j = getD board (103 + 6 * j) 0
 
 abbrev pub conductanceOn : List ℕ → ℕ → ℕ
-conductanceOn board j = getD board (23 + 6 * j) 0
+conductanceOn board j = getD board (104 + 6 * j) 0
 
 abbrev pub firstOn : List ℕ → ℕ → ℕ
-firstOn board j = getD board (24 + 6 * j) 0
+firstOn board j = getD board (105 + 6 * j) 0
 
 abbrev pub breakpointsOn : List ℕ → ℕ → ℕ
-breakpointsOn board j = getD board (25 + 6 * j) 0
+breakpointsOn board j = getD board (106 + 6 * j) 0
 
 -- element j as a branch, and the network
 abbrev pub lawOn : List ℕ → List ℤ → ℕ → Law
@@ -79,9 +88,15 @@ plainConductance board j = cond (hasCurve (kindOn board j)) 0 (conductanceOn boa
 abbrev pub heldFrom : List ℕ → ℕ → ℕ → ℕ
 heldFrom board j other = cond (leb other (drivenOn board)) (plainConductance board j) 0
 
--- a board that means a network within document 01's limits, every curve with its stretches
+-- it has its network's index
+abbrev pub Indexed : List ℕ → List ℤ → Type 0
+Indexed board stretches = (k : ℕ) → k < indexSize → getD board (20 + k) 0 ≡ indexNumber (networkOn board stretches) k
+
+-- a board that means a network within document 01's limits, with its index, every curve with its stretches and no conductance
 pub record Laid (board : List ℕ) (stretches : List ℤ) : Type 0 where
   pub limits : InLimits (networkOn board stretches)
+  pub index : Indexed board stretches
+  pub no-conductance : (j : ℕ) → j < countOn board → hasCurve (kindOn board j) ≡ true → conductanceOn board j ≡ 0
   pub curves : (j : ℕ) → j < countOn board → hasCurve (kindOn board j) ≡ true → CurveReady stretches (firstOn board j) (breakpointsOn board j)
 
 -- .. and has what was computed from it: the free nodes' steepest sums. What every function of a sample asks
@@ -121,3 +136,35 @@ flowOn board stretches stored volts j = current 1 (branchOn board stretches j .l
 -- which end of element j node i is
 abbrev pub endAt : List ℕ → ℕ → ℕ → End
 endAt board j i = pick (eqb i (pOn board j)) (eqb i (qOn board j)) P Q Neither
+
+-- the node at an end, the one at the other end of its element, and what leaves the node at an end by that element
+abbrev pub nodeOn : List ℕ → ℕ → ℕ
+nodeOn board end = cond (eqb (end % 2) 0) (pOn board (end / 2)) (qOn board (end / 2))
+
+abbrev pub otherOn : List ℕ → ℕ → ℕ
+otherOn board end = cond (eqb (end % 2) 0) (qOn board (end / 2)) (pOn board (end / 2))
+
+abbrev pub leavingOn : List ℕ → List ℤ → List ℤ → List ℤ → ℕ → ℤ
+leavingOn board stretches stored volts end = let c = flowOn board stretches stored volts (end / 2) in cond (eqb (end % 2) 0) c (negℤ c)
+
+-- what the code that makes the index is given: all but what is computed from it, and zeros where the index goes
+pub record Unindexed (board : List ℕ) (stretches : List ℤ) : Type 0 where
+  pub limits : InLimits (networkOn board stretches)
+  pub blank : (k : ℕ) → k < indexSize → getD board (20 + k) 0 ≡ 0
+  pub long : length board ≡ boardSize
+
+-- ---- what the index tells
+
+-- how many elements stand under node i, and the one at place t
+abbrev pub manyOn : List ℕ → ℕ → ℕ
+manyOn board i = startOn board (i + 1) - startOn board i
+
+abbrev pub namedOn : List ℕ → ℕ → ℕ → ℕ
+namedOn board i t = endOn board (startOn board i + t) / 2
+
+-- under node i stand exactly the elements that touch it, each once, in image order, and each with the end that the node is
+pub record Names (board : List ℕ) (stretches : List ℤ) (i : ℕ) : Type 0 where
+  pub touching : (t : ℕ) → t < manyOn board i → (namedOn board i t < countOn board) × (touches (networkOn board stretches) i (namedOn board i t) ≡ true)
+  pub all : (j : ℕ) → j < countOn board → touches (networkOn board stretches) i j ≡ true → (t : ℕ) × (t < manyOn board i) × (namedOn board i t ≡ j)
+  pub rising : (t u : ℕ) → t < u → u < manyOn board i → namedOn board i t < namedOn board i u
+  pub end : (t : ℕ) → t < manyOn board i → endOn board (startOn board i + t) ≡ endNumber (networkOn board stretches) i (namedOn board i t)

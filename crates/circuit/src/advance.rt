@@ -4,8 +4,7 @@ use crate::branch;
 use network::kind;
 use units::signed;
 ghost use mathlib.Core.Path.{_≡_};
-ghost use Prim.Native.Nat.{ℕ, _<_};
-ghost use lib.IntN.{ℤ};
+ghost use Prim.Native.Nat.{_<_};
 ghost use lib.ListN.{length};
 ghost use Rattle.units.specs.Voltage.{Within, within};
 ghost use Rattle.network.specs.Network.{storedLimit};
@@ -30,7 +29,7 @@ pub enum Advanced {
 }
 
 // Twice what the conductance of element j carries at its voltage.
-fn twice(board: &[u64; 212], stretches: &[i64; 408], volts: &[i64; 16], j: usize) -> i64
+fn twice(board: &[u64; 293], stretches: &[i64; 408], volts: &[i64; 16], j: usize) -> i64
     requires { ⌜ Laid (now board) (now stretches) × Ranged (now board) (now volts) × (j < countOn (now board)) ⌝ }
     ensures { λ r. ⌜ Twice (now (board .entry)) (now (volts .entry)) j r ⌝ }
 {
@@ -41,7 +40,7 @@ fn twice(board: &[u64; 212], stretches: &[i64; 408], volts: &[i64; 16], j: usize
 }
 
 // The stored current of element j after a sample, x being the one before it.
-fn next(board: &[u64; 212], stretches: &[i64; 408], volts: &[i64; 16], j: usize, x: i64) -> i64
+fn next(board: &[u64; 293], stretches: &[i64; 408], volts: &[i64; 16], j: usize, x: i64) -> i64
     requires { ⌜ Laid (now board) (now stretches) × Ranged (now board) (now volts) × (j < countOn (now board)) × Within storedLimit x ⌝ }
     ensures { λ r. ⌜ r ≡ nextOn (now (board .entry)) (now (stretches .entry)) (now (volts .entry)) j x ⌝ }
 {
@@ -57,7 +56,7 @@ fn next(board: &[u64; 212], stretches: &[i64; 408], volts: &[i64; 16], j: usize,
 
 // Whether every new stored current is within its limit.
 fn all_kept(
-    board: &[u64; 212],
+    board: &[u64; 293],
     stretches: &[i64; 408],
     volts: &[i64; 16],
     stored: &[i64; 32],
@@ -77,7 +76,7 @@ fn all_kept(
 }
 
 // Stores every new stored current. Each depends on its own old one alone, so that it can take its place.
-fn store_all(board: &[u64; 212], stretches: &[i64; 408], volts: &[i64; 16], stored: &mut [i64; 32])
+fn store_all(board: &[u64; 293], stretches: &[i64; 408], volts: &[i64; 16], stored: &mut [i64; 32])
     requires { ⌜ Evaluable (now board) (now stretches) (now stored) (now volts) × (length (now stored) ≡ 32) ⌝ }
     ensures { λ _. ⌜ StoredTo (now (board .entry)) (now (stretches .entry)) (now (volts .entry)) (now (stored .entry)) (countOn (now (board .entry))) (now (stored .exit)) ⌝ }
 {
@@ -91,7 +90,7 @@ fn store_all(board: &[u64; 212], stretches: &[i64; 408], volts: &[i64; 16], stor
 
 // All stored currents after a sample with these voltages, if every one is within its limit.
 pub fn advance(
-    board: &[u64; 212],
+    board: &[u64; 293],
     stretches: &[i64; 408],
     volts: &[i64; 16],
     stored: &mut [i64; 32],

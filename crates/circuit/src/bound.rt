@@ -2,8 +2,7 @@
 use crate::board;
 use crate::node;
 use units::signed;
-ghost use mathlib.Core.Path.{_≡_};
-ghost use Prim.Native.Nat.{ℕ, _^_, _≤_, _<_};
+ghost use Prim.Native.Nat.{_^_, _<_};
 ghost use Rattle.circuit.specs.Board.{Laid};
 ghost use Rattle.circuit.specs.Bound.{AtNode, Bounding};
 
@@ -28,7 +27,7 @@ fn at_node(steepest: u64, held: u64, e: u64) -> Bound
 }
 
 // The least B that is enough at every free node, for currents that miss zero by at most e.
-pub fn least(board: &[u64; 212], stretches: &[i64; 408], e: u64) -> Bound
+pub fn least(board: &[u64; 293], stretches: &[i64; 408], e: u64) -> Bound
     requires { ⌜ Laid (now board) (now stretches) ⌝ }
     ensures { λ r. ⌜ Bounding (now (board .entry)) (now (stretches .entry)) e r ⌝ }
 {

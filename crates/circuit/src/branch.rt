@@ -4,11 +4,10 @@ use crate::curve;
 use network::kind;
 use units::signed;
 ghost use mathlib.Core.Path.{_≡_};
-ghost use Prim.Native.Nat.{ℕ, _<_};
-ghost use lib.IntN.{ℤ};
+ghost use Prim.Native.Nat.{_/_, _<_};
 ghost use Rattle.units.specs.Voltage.{Within};
-ghost use Rattle.network.specs.Network.{current, leaving, steepestOf, reading, breakpointLimit, storedLimit};
-ghost use Rattle.circuit.specs.Board.{countOn, plainConductance, branchOn, Laid, Evaluable, Ends, acrossOn, flowOn, endAt};
+ghost use Rattle.network.specs.Network.{current, steepestOf, reading, breakpointLimit, storedLimit};
+ghost use Rattle.circuit.specs.Board.{countOn, plainConductance, branchOn, Laid, Evaluable, Ends, acrossOn, flowOn, endAt, nodeOn, otherOn, leavingOn};
 
 // Which end of an element a node is.
 pub enum End {
@@ -17,8 +16,8 @@ pub enum End {
     Neither,
 }
 
-// Asked here alone: which elements a node has.
-pub fn end_at(board: &[u64; 212], j: usize, node: usize) -> End
+// Asked for the index alone, which tells from then on which elements a node has.
+pub fn end_at(board: &[u64; 293], j: usize, node: usize) -> End
     requires { ⌜ j < 32 ⌝ }
     ensures { λ r. ⌜ r ≡ endAt (now (board .entry)) j node ⌝ }
 {
@@ -31,12 +30,14 @@ pub fn end_at(board: &[u64; 212], j: usize, node: usize) -> End
     End::Neither
 }
 
-// What element j carries from p to q at the voltage v between them, its stored current being x.
-fn carried(board: &[u64; 212], stretches: &[i64; 408], j: usize, x: i64, v: i64) -> i64
+// What element j carries from p to q at the voltage v between them, its stored current being x. That it has
+// a curve is told by its conductance, which is read in any case: it is zero there alone.
+fn carried(board: &[u64; 293], stretches: &[i64; 408], j: usize, x: i64, v: i64) -> i64
     requires { ⌜ Laid (now board) (now stretches) × (j < countOn (now board)) × Within storedLimit x × Within breakpointLimit v ⌝ }
     ensures { λ r. ⌜ r ≡ current 1 (branchOn (now (board .entry)) (now (stretches .entry)) j .law) x v ⌝ }
 {
-    if kind::has_curve(board::kind(board, j)) {
+    let g = board::conductance(board, j);
+    if g == 0 {
         return curve::current(
             stretches,
             board::first(board, j),
@@ -44,14 +45,11 @@ fn carried(board: &[u64; 212], stretches: &[i64; 408], j: usize, x: i64, v: i64)
             v,
         );
     }
-    signed::minus(
-        signed::times(signed::whole(board::conductance(board, j)), v),
-        x,
-    )
+    signed::minus(signed::times(signed::whole(g), v), x)
 }
 
 // The voltage of element j: that of its end p less that of its end q.
-pub fn across(board: &[u64; 212], volts: &[i64; 16], j: usize) -> i64
+pub fn across(board: &[u64; 293], volts: &[i64; 16], j: usize) -> i64
     requires { ⌜ Ends (now board) (now volts) j ⌝ }
     ensures { λ r. ⌜ r ≡ acrossOn (now (board .entry)) (now (volts .entry)) j ⌝ }
 {
@@ -62,7 +60,7 @@ pub fn across(board: &[u64; 212], volts: &[i64; 16], j: usize) -> i64
 
 // The current of element j, from its end p to its end q, at these voltages.
 pub fn flow(
-    board: &[u64; 212],
+    board: &[u64; 293],
     stretches: &[i64; 408],
     stored: &[i64; 32],
     volts: &[i64; 16],
@@ -74,27 +72,44 @@ pub fn flow(
     carried(board, stretches, j, stored[j], across(board, volts, j))
 }
 
-// What leaves the node by element j.
+// What leaves the node at an end by the end's element. The node's own voltage is handed over: a sum over
+// its ends has read it once.
 pub fn leaving(
-    board: &[u64; 212],
+    board: &[u64; 293],
     stretches: &[i64; 408],
     stored: &[i64; 32],
     volts: &[i64; 16],
-    j: usize,
-    node: usize,
+    own: i64,
+    end: usize,
 ) -> i64
-    requires { ⌜ Evaluable (now board) (now stretches) (now stored) (now volts) × (j < countOn (now board)) ⌝ }
-    ensures { λ r. ⌜ r ≡ leaving 1 (branchOn (now (board .entry)) (now (stretches .entry)) j) (reading (now (stored .entry)) j) (reading (now (volts .entry))) node ⌝ }
+    requires { ⌜ Evaluable (now board) (now stretches) (now stored) (now volts) × (end / 2 < countOn (now board)) × (own ≡ reading (now volts) (nodeOn (now board) end)) ⌝ }
+    ensures { λ r. ⌜ r ≡ leavingOn (now (board .entry)) (now (stretches .entry)) (now (stored .entry)) (now (volts .entry)) end ⌝ }
 {
-    match end_at(board, j, node) {
-        End::P => flow(board, stretches, stored, volts, j),
-        End::Q => signed::minus(0, flow(board, stretches, stored, volts, j)),
-        End::Neither => 0,
+    let j = end / 2;
+    if end % 2 == 0 {
+        let q = board::end_q(board, j);
+        return carried(board, stretches, j, stored[j], signed::minus(own, volts[q]));
     }
+    let p = board::end_p(board, j);
+    signed::minus(
+        0,
+        carried(board, stretches, j, stored[j], signed::minus(volts[p], own)),
+    )
+}
+
+// The node at the other end of an end's element.
+pub fn other(board: &[u64; 293], end: usize) -> usize
+    requires { ⌜ end < 64 ⌝ }
+    ensures { λ r. ⌜ r ≡ otherOn (now (board .entry)) end ⌝ }
+{
+    if end % 2 == 0 {
+        return board::end_q(board, end / 2);
+    }
+    board::end_p(board, end / 2)
 }
 
 // The conductance of element j: none where it has a curve.
-pub fn conductance(board: &[u64; 212], j: usize) -> u64
+pub fn conductance(board: &[u64; 293], j: usize) -> u64
     requires { ⌜ j < 32 ⌝ }
     ensures { λ r. ⌜ r ≡ plainConductance (now (board .entry)) j ⌝ }
 {
@@ -105,7 +120,7 @@ pub fn conductance(board: &[u64; 212], j: usize) -> u64
 }
 
 // The steepest slope of element j.
-pub fn steepest(board: &[u64; 212], stretches: &[i64; 408], j: usize) -> u64
+pub fn steepest(board: &[u64; 293], stretches: &[i64; 408], j: usize) -> u64
     requires { ⌜ Laid (now board) (now stretches) × (j < countOn (now board)) ⌝ }
     ensures { λ r. ⌜ r ≡ steepestOf (branchOn (now (board .entry)) (now (stretches .entry)) j .law) ⌝ }
 {

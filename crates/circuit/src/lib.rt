@@ -6,6 +6,7 @@ pub mod bound;
 pub mod branch;
 pub mod curve;
 pub mod drawing;
+pub mod index;
 pub mod node;
 pub mod places;
 pub mod stretches;

@@ -34,7 +34,7 @@ fn larger(a: f64, b: f64) -> f64 {
 }
 
 // The voltages as f64.
-fn floats(board: &[u64; 212], volts: &[i64; 16]) -> [f64; 16]
+fn floats(board: &[u64; 293], volts: &[i64; 16]) -> [f64; 16]
     requires { ⌜ nodesOn (now board) ≤ 15 ⌝ }
 {
     let nodes = board::nodes(board);
@@ -52,7 +52,7 @@ fn floats(board: &[u64; 212], volts: &[i64; 16]) -> [f64; 16]
 
 // The free nodes and what was solved for, rounded: in x, and in `volts` as whole microvolts. The change
 // is taken before the old value is overwritten.
-fn shift(board: &[u64; 212], more: [f64; 16], x: &mut [f64; 16], volts: &mut [i64; 16]) -> Change
+fn shift(board: &[u64; 293], more: [f64; 16], x: &mut [f64; 16], volts: &mut [i64; 16]) -> Change
     requires { ⌜ (nodesOn (now board) ≤ 15) × (drivenOn (now board) ≤ nodesOn (now board)) × Standing (now board) (now volts) ⌝ }
     ensures { λ r. ⌜ Standing (now (board .entry)) (now (volts .exit)) ⌝ }
 {
@@ -78,7 +78,7 @@ fn shift(board: &[u64; 212], more: [f64; 16], x: &mut [f64; 16], volts: &mut [i6
 }
 
 // The largest of the free nodes' net currents.
-fn largest(board: &[u64; 212], nets: [f64; 16]) -> f64
+fn largest(board: &[u64; 293], nets: [f64; 16]) -> f64
     requires { ⌜ (nodesOn (now board) ≤ 15) × (drivenOn (now board) ≤ nodesOn (now board)) ⌝ }
 {
     let nodes = board::nodes(board);
@@ -93,7 +93,7 @@ fn largest(board: &[u64; 212], nets: [f64; 16]) -> f64
 
 // What remains at a free node at the most, where the nodes stand now.
 fn remaining(
-    board: &[u64; 212],
+    board: &[u64; 293],
     stretches: &[i64; 408],
     volts: &[i64; 16],
     tangents: [Tangent; 32],
@@ -110,7 +110,7 @@ fn remaining(
 // The free nodes brought to the whole microvolts that the ties find best for what is left over. The
 // ending tells what remains there.
 fn cut(
-    board: &[u64; 212],
+    board: &[u64; 293],
     stretches: &[i64; 408],
     tangents: [Tangent; 32],
     spent: bool,
@@ -138,7 +138,7 @@ fn cut(
 // Rounds until no curve is on another line than the one that was solved with, which makes the solution
 // exact, or no voltage changed, or there were enough of them.
 fn search(
-    board: &[u64; 212],
+    board: &[u64; 293],
     stretches: &[i64; 408],
     stored: &[i64; 32],
     volts: &mut [i64; 16],
@@ -186,7 +186,7 @@ fn search(
 
 // Rounded proposals for the free nodes in `guess`; those of `volts` if the search broke.
 pub fn newton(
-    board: &[u64; 212],
+    board: &[u64; 293],
     stretches: &[i64; 408],
     stored: &[i64; 32],
     volts: &[i64; 16],

@@ -8,7 +8,7 @@ ghost use Rattle.circuit.specs.Board.{nodesOn, drivenOn, Ranged};
 ghost use Rattle.guess.specs.Proposal.{Standing, Proposed};
 
 // Ground at zero and every node brought into range, so that currents can be asked for.
-pub fn seated(board: &[u64; 212], volts: &[i64; 16]) -> [i64; 16]
+pub fn seated(board: &[u64; 293], volts: &[i64; 16]) -> [i64; 16]
     requires { ⌜ nodesOn (now board) ≤ 15 ⌝ }
     ensures { λ r. ⌜ Standing (now (board .entry)) r ⌝ }
 {
@@ -24,7 +24,7 @@ pub fn seated(board: &[u64; 212], volts: &[i64; 16]) -> [i64; 16]
 }
 
 // The free nodes of `to` placed as in `from`.
-pub fn place_free(board: &[u64; 212], from: &[i64; 16], to: &mut [i64; 16])
+pub fn place_free(board: &[u64; 293], from: &[i64; 16], to: &mut [i64; 16])
     requires { ⌜ (nodesOn (now board) ≤ 15) × (drivenOn (now board) ≤ nodesOn (now board)) × Ranged (now board) (now from) × (length (now to) ≡ 16) ⌝ }
     ensures { λ _. ⌜ Proposed (now (board .entry)) (now (to .entry)) (now (to .exit)) ⌝ }
 {

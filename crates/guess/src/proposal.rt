@@ -11,7 +11,7 @@ ghost use Rattle.guess.specs.Proposal.{Guessable, Proposed};
 // One free node slides, more go Newton's way, and with none there is nothing to propose. `volts` may hold
 // anything; its ground and driven nodes stay as they are.
 pub fn propose(
-    board: &[u64; 212],
+    board: &[u64; 293],
     stretches: &[i64; 408],
     stored: &[i64; 32],
     volts: &mut [i64; 16],

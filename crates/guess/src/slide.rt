@@ -8,8 +8,8 @@ use circuit::board;
 use circuit::branch;
 use units::voltage::Nearest;
 use units::voltage::Voltage;
-ghost use Prim.Native.Nat.{_≤_, _<_};
-ghost use Rattle.circuit.specs.Board.{countOn, Evaluable};
+ghost use Prim.Native.Nat.{_/_, _≤_, _<_};
+ghost use Rattle.circuit.specs.Board.{countOn, nodesOn, Evaluable};
 ghost use Rattle.guess.specs.Proposal.{Standing};
 
 fn float_at(volts: &[i64; 16], i: usize) -> f64
@@ -21,60 +21,49 @@ fn float_at(volts: &[i64; 16], i: usize) -> f64
     v.to_f64()
 }
 
-// What leaves the node by element j, as a line over the node's own voltage.
+// What leaves the node at an end by the end's element, as a line over the node's own voltage.
 fn leaving(
-    board: &[u64; 212],
+    board: &[u64; 293],
     stretches: &[i64; 408],
     stored: &[i64; 32],
     volts: &[i64; 16],
-    j: usize,
-    node: usize,
+    end: usize,
 ) -> Tangent
-    requires { ⌜ Evaluable (now board) (now stretches) (now stored) (now volts) × (j < countOn (now board)) ⌝ }
+    requires { ⌜ Evaluable (now board) (now stretches) (now stored) (now volts) × (end / 2 < countOn (now board)) ⌝ }
 {
-    match branch::end_at(board, j, node) {
-        branch::End::P => {
-            let t = tangent::of_element(board, stretches, stored, volts, j);
-            let other = float_at(volts, board::end_q(board, j));
-            Tangent {
-                slope: t.slope,
-                at_zero: t.at_zero - t.slope * other,
-            }
-        }
-        branch::End::Q => {
-            let t = tangent::of_element(board, stretches, stored, volts, j);
-            let other = float_at(volts, board::end_p(board, j));
-            Tangent {
-                slope: t.slope,
-                at_zero: -t.at_zero - t.slope * other,
-            }
-        }
-        branch::End::Neither => Tangent {
-            slope: 0.0,
-            at_zero: 0.0,
-        },
+    let t = tangent::of_element(board, stretches, stored, volts, end / 2);
+    let other = t.slope * float_at(volts, branch::other(board, end));
+    if end % 2 == 0 {
+        return Tangent {
+            slope: t.slope,
+            at_zero: t.at_zero - other,
+        };
+    }
+    Tangent {
+        slope: t.slope,
+        at_zero: -t.at_zero - other,
     }
 }
 
 // The line of the node's net current where it stands.
 fn line(
-    board: &[u64; 212],
+    board: &[u64; 293],
     stretches: &[i64; 408],
     stored: &[i64; 32],
     volts: &[i64; 16],
     node: usize,
 ) -> Tangent
-    requires { ⌜ Evaluable (now board) (now stretches) (now stored) (now volts) ⌝ }
+    requires { ⌜ Evaluable (now board) (now stretches) (now stored) (now volts) × (node ≤ nodesOn (now board)) ⌝ }
 {
-    let count = board::count(board);
+    let after = board::start(board, node + 1);
     let mut slope = std::num::nearest_u64_to_f64(board::leak(board));
     let mut at_zero: f64 = 0.0;
-    let mut j: usize = 0;
-    while j < count {
-        let t = leaving(board, stretches, stored, volts, j, node);
+    let mut k = board::start(board, node);
+    while k < after {
+        let t = leaving(board, stretches, stored, volts, board::end(board, k));
         slope = slope + t.slope;
         at_zero = at_zero + t.at_zero;
-        j += 1;
+        k += 1;
     }
     Tangent { slope, at_zero }
 }
@@ -90,7 +79,7 @@ fn left(t: Tangent, v: f64) -> f64 {
 }
 
 // The node put at the voltage that x is. False if it is none.
-fn place_node(board: &[u64; 212], x: f64, node: usize, volts: &mut [i64; 16]) -> bool
+fn place_node(board: &[u64; 293], x: f64, node: usize, volts: &mut [i64; 16]) -> bool
     requires { ⌜ Standing (now board) (now volts) × (node ≤ 15) ⌝ }
     ensures { λ r. ⌜ Standing (now (board .entry)) (now (volts .exit)) ⌝ }
 {
@@ -106,13 +95,13 @@ fn place_node(board: &[u64; 212], x: f64, node: usize, volts: &mut [i64; 16]) ->
 
 // The node moved until its line stays the same, or often enough.
 pub fn slide(
-    board: &[u64; 212],
+    board: &[u64; 293],
     stretches: &[i64; 408],
     stored: &[i64; 32],
     node: usize,
     volts: &mut [i64; 16],
 ) -> Ending
-    requires { ⌜ Evaluable (now board) (now stretches) (now stored) (now volts) × Standing (now board) (now volts) × (node ≤ 15) ⌝ }
+    requires { ⌜ Evaluable (now board) (now stretches) (now stored) (now volts) × Standing (now board) (now volts) × (node ≤ nodesOn (now board)) ⌝ }
     ensures { λ r. ⌜ Standing (now (board .entry)) (now (volts .exit)) ⌝ }
 {
     let mut t = line(board, stretches, stored, volts, node);

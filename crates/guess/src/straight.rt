@@ -16,7 +16,7 @@ pub struct Renewed {
 }
 
 // The matrix of the leaks alone.
-pub fn leaks(board: &[u64; 212]) -> [[f64; 15]; 15]
+pub fn leaks(board: &[u64; 293]) -> [[f64; 15]; 15]
     requires { ⌜ nodesOn (now board) ≤ 15 ⌝ }
 {
     let leak = std::num::nearest_u64_to_f64(board::leak(board));
@@ -32,7 +32,7 @@ pub fn leaks(board: &[u64; 212]) -> [[f64; 15]; 15]
 
 // The tangents at these voltages, their slopes added to the matrix.
 pub fn taken(
-    board: &[u64; 212],
+    board: &[u64; 293],
     stretches: &[i64; 408],
     stored: &[i64; 32],
     volts: &[i64; 16],
@@ -58,7 +58,7 @@ pub fn taken(
 // The curves' tangents at new voltages. The matrix is whole, so that only the change of a slope is
 // added to it: slopes are whole numbers that an f64 has room for, and nothing is rounded.
 pub fn retaken(
-    board: &[u64; 212],
+    board: &[u64; 293],
     stretches: &[i64; 408],
     volts: &[i64; 16],
     tangents: [Tangent; 32],
@@ -94,7 +94,7 @@ pub fn retaken(
 }
 
 // What enters each node by its leak.
-fn leaking(board: &[u64; 212], x: &[f64; 16]) -> [f64; 16]
+fn leaking(board: &[u64; 293], x: &[f64; 16]) -> [f64; 16]
     requires { ⌜ nodesOn (now board) ≤ 15 ⌝ }
 {
     let leak = std::num::nearest_u64_to_f64(board::leak(board));
@@ -109,7 +109,7 @@ fn leaking(board: &[u64; 212], x: &[f64; 16]) -> [f64; 16]
 }
 
 // What enters each node, by the tangents: its net current the other way round.
-pub fn entering(board: &[u64; 212], tangents: [Tangent; 32], x: &[f64; 16]) -> [f64; 16]
+pub fn entering(board: &[u64; 293], tangents: [Tangent; 32], x: &[f64; 16]) -> [f64; 16]
     requires { ⌜ InPlaces (now board) ⌝ }
 {
     let mut nets = leaking(board, x);

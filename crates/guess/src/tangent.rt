@@ -30,7 +30,7 @@ fn on_curve(stretches: &[i64; 408], first: usize, m: usize, v: i64) -> Tangent
 }
 
 // That of element j, which has a curve, at the voltage across it.
-pub fn of_curve(board: &[u64; 212], stretches: &[i64; 408], volts: &[i64; 16], j: usize) -> Tangent
+pub fn of_curve(board: &[u64; 293], stretches: &[i64; 408], volts: &[i64; 16], j: usize) -> Tangent
     requires { ⌜ Laid (now board) (now stretches) × Ranged (now board) (now volts) × (j < countOn (now board)) × (hasCurve (kindOn (now board) j) ≡ true) ⌝ }
 {
     on_curve(
@@ -43,7 +43,7 @@ pub fn of_curve(board: &[u64; 212], stretches: &[i64; 408], volts: &[i64; 16], j
 
 // That of element j, whatever it is.
 pub fn of_element(
-    board: &[u64; 212],
+    board: &[u64; 293],
     stretches: &[i64; 408],
     stored: &[i64; 32],
     volts: &[i64; 16],

@@ -7,14 +7,14 @@ use Prim.Native.Nat.{ℕ, zero, suc, _+_, _*_, _^_, _≤_, _<_}
 use native.Mathlib.Omega.{arith}
 use native.Mathlib.Nat.{le-refl, mul-le-mul}
 use lib.Dec.{eqb, leb}
-use lib.ListN.{length, getD}
+use lib.ListN.{getD}
 use lib.IntN.{ℤ, pos, negℤ, natAbs, _+ℤ_, _-ℤ_, _*ℤ_}
 use lib.Signed.{_≤ℤ_, _<ℤ_}
 use Rattle.units.specs.Integer.{up, dn, lower, higher, sum}
 use Rattle.units.specs.Voltage.{voltageLimit, Within, InRange}
 use Rattle.units.proofs.Integers.{signs, sub-law, pos-law, abs-law, decide, ordered, crossed, scale-one}
 use Rattle.units.proofs.Sizes.{abs-within, abs-add, abs-sub, abs-neg, abs-mul, sum-abs, total-small}
-use Rattle.network.specs.Network.{Law, conductance, curve, Store, nothing, capacitor, inductor, Network, reading, ramp, current, pick, leaving, net, greatest, conductanceOf, steepestOf, heldBy, steepestBy, held, steepest, advance, next, branchLimit, conductanceLimit, breakpointLimit, storedLimit, leakLimit, currentBound, CurveInLimits, LawInLimits, InLimits}
+use Rattle.network.specs.Network.{Law, conductance, curve, Network, ramp, current, pick, leaving, greatest, conductanceOf, steepestOf, heldBy, steepestBy, held, steepest, branchLimit, conductanceLimit, breakpointLimit, storedLimit, leakLimit, currentBound, LawInLimits, InLimits}
 use Rattle.network.specs.Sample.{Legal, DrivesLegal}
 use Rattle.network.proofs.Nodes.{by-node}
 use Rattle.network.proofs.Compare.{current-steep}
@@ -141,9 +141,9 @@ module _ (N : Network) (limits : InLimits N) where
         go false true = omega (arith, current-fits j l, abs-neg c)
         go false false = omega arith
 
-    -- the leak's current and the sum of any number of branches, which a loop adds up one by one
-    pub partial-sum-small : (i j : ℕ) → i ≤ N .nodes → j ≤ N .count → natAbs (pos (N .leak) *ℤ w i +ℤ sum (λ (m : ℕ). leaving 1 (N .branch m) (x m) w i) j) ≤ leakLimit * voltageLimit + j * currentBound
-    partial-sum-small i j there l =
-        let f : ℕ → ℤ = λ m. leaving 1 (N .branch m) (x m) w i in
+    -- the leak's current and the sum over any n branches, which a loop adds up one by one
+    pub partial-sum-small : (i n : ℕ) (element : ℕ → ℕ) → i ≤ N .nodes → ((t : ℕ) → t < n → element t < N .count) → natAbs (pos (N .leak) *ℤ w i +ℤ sum (λ (t : ℕ). leaving 1 (N .branch (element t)) (x (element t)) w i) n) ≤ leakLimit * voltageLimit + n * currentBound
+    partial-sum-small i n element there each =
+        let f : ℕ → ℤ = λ t. leaving 1 (N .branch (element t)) (x (element t)) w i in
         let m : N .leak * natAbs (w i) ≤ leakLimit * voltageLimit = mul-le-mul (limits .leak-small) (range i there) in
-        omega (arith, abs-add (pos (N .leak) *ℤ w i) (sum f j), abs-mul (pos (N .leak)) (w i), sum-abs f currentBound j (λ n k. leaving-fits i n (omega arith)))
+        omega (arith, abs-add (pos (N .leak) *ℤ w i) (sum f n), abs-mul (pos (N .leak)) (w i), sum-abs f currentBound n (λ t l. leaving-fits i (element t) (each t l)))

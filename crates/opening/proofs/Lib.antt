@@ -1,2 +1,3 @@
 pub mod BoardIs
+pub mod LaidIs
 pub mod TableIs

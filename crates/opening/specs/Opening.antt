@@ -11,9 +11,9 @@ use Rattle.image.specs.Parts.{elementOf, curveOf, slopesOf, breakpointsOf}
 use Rattle.image.specs.Conductance.{conductanceAt}
 use Rattle.image.specs.Setting.{Setting}
 use Rattle.image.specs.Meaning.{leakOf, networkAt}
-use Rattle.image.specs.declared.parts.Element.{Element}
 use Rattle.image.specs.declared.parts.Parts.{Parts}
 use Rattle.circuit.specs.Board.{boardSize}
+use Rattle.circuit.specs.Index.{indexNumber}
 use Rattle.circuit.specs.Stretch.{stretchesSize, rowNumber}
 
 -- number k of element j: kind, p, q and conductance, and for a curve the row of its first stretch and how many breakpoints it has
@@ -26,14 +26,24 @@ elementNumber parts setting j k =
     (cond (eqb k 3) (conductanceAt parts setting j)
     (cond (hasCurve (e .kind)) (cond (eqb k 4) (17 * e .curve) (curveOf parts (e .curve) .count)) 0))))
 
--- number i of the board, when the steepest sums of the first n nodes stand on it
-unfoldable pub boardNumber : Parts → Setting → ℕ → ℕ → ℕ
-boardNumber parts setting n i =
+-- number i of the board before anything is computed from it
+unfoldable pub laidNumber : Parts → Setting → ℕ → ℕ
+laidNumber parts setting i =
     cond (eqb i 0) (leakOf (parts .version))
     (cond (eqb i 1) (parts .nodes)
     (cond (eqb i 2) (parts .driven)
     (cond (eqb i 3) (parts .«element_count»)
-    (cond (ltb i 20) (cond (ltb i (4 + n)) (steepest (networkAt parts setting) (i - 4)) 0) (elementNumber parts setting ((i - 20) / 6) ((i - 20) % 6))))))
+    (cond (ltb i 101) 0 (elementNumber parts setting ((i - 101) / 6) ((i - 101) % 6))))))
+
+unfoldable pub laidOf : Parts → Setting → List ℕ
+laidOf parts setting = padded 0 boardSize (laidNumber parts setting) boardSize
+
+-- .. and when its index stands on it and the steepest sums of the first n nodes
+unfoldable pub boardNumber : Parts → Setting → ℕ → ℕ → ℕ
+boardNumber parts setting n i =
+    cond (ltb i 4) (laidNumber parts setting i)
+    (cond (ltb i 20) (cond (ltb i (4 + n)) (steepest (networkAt parts setting) (i - 4)) 0)
+    (cond (ltb i 101) (indexNumber (networkAt parts setting) (i - 20)) (laidNumber parts setting i)))
 
 -- the board with those of the first n nodes, and with all
 unfoldable pub boardTo : Parts → Setting → ℕ → List ℕ

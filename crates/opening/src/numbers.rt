@@ -1,4 +1,5 @@
-// The board: a circuit's numbers, and the steepest sums that are computed from them.
+// The board: a circuit's numbers, and what is computed from them: the index and the steepest sums.
+use circuit::index;
 use circuit::node;
 use image::Element;
 use image::Parts;
@@ -12,11 +13,11 @@ ghost use Rattle.image.specs.Conductance.{conductancesFit};
 ghost use Rattle.image.specs.Setting.{plain};
 ghost use Rattle.image.specs.Sound.{Sound};
 ghost use Rattle.circuit.specs.Board.{boardSize};
-ghost use Rattle.opening.specs.Opening.{boardTo, boardOf, stretchesOf};
+ghost use Rattle.opening.specs.Opening.{laidOf, boardOf, stretchesOf};
 
 // The numbers of an element from place `at` on: g is its conductance, and a curve of m breakpoints has
 // its stretches from row `first` on.
-fn put(board: &mut [u64; 212], at: usize, e: Element, g: u64, first: u64, m: u64)
+fn put(board: &mut [u64; 293], at: usize, e: Element, g: u64, first: u64, m: u64)
     requires { ⌜ at + 6 ≤ boardSize ⌝ }
     ensures { λ _. ⌜ now (board .exit) ≡ overlaid (now (board .entry)) at (e .kind ∷ e .p ∷ e .q ∷ g ∷ first ∷ m ∷ []) ⌝ }
 {
@@ -28,13 +29,13 @@ fn put(board: &mut [u64; 212], at: usize, e: Element, g: u64, first: u64, m: u64
     board[at + 5] = m;
 }
 
-// The leak, the counts and the elements; no steepest sum yet.
-fn laid(parts: Parts) -> [u64; 212]
+// The leak, the counts and the elements; nothing that is computed from them yet.
+fn laid(parts: Parts) -> [u64; 293]
     requires { ⌜ Sound parts ⌝ }
-    ensures { λ r. ⌜ r ≡ boardTo parts plain 0 ⌝ }
+    ensures { λ r. ⌜ r ≡ laidOf parts plain ⌝ }
 {
     let count = parts.element_count as usize;
-    let mut board = [0u64; 212];
+    let mut board = [0u64; 293];
     board[0] = image::leak(parts.version);
     board[1] = parts.nodes as u64;
     board[2] = parts.driven as u64;
@@ -42,7 +43,7 @@ fn laid(parts: Parts) -> [u64; 212]
     let mut j: usize = 0;
     while j < count {
         let e = parts.elements[j];
-        let at = 20 + 6 * j;
+        let at = 101 + 6 * j;
         j += 1;
         let g = image::conductance(e.kind, e.value, parts.rate);
         if kind::has_curve(e.kind as u64) {
@@ -57,11 +58,12 @@ fn laid(parts: Parts) -> [u64; 212]
 }
 
 // The board of a circuit whose conductances are within their limits, from its stretches.
-pub fn board(parts: Parts, stretches: &[i64; 408]) -> [u64; 212]
+pub fn board(parts: Parts, stretches: &[i64; 408]) -> [u64; 293]
     requires { ⌜ Sound parts × (conductancesFit parts plain ≡ true) × (now stretches ≡ stretchesOf parts) ⌝ }
     ensures { λ r. ⌜ r ≡ boardOf parts plain ⌝ }
 {
     let mut board = laid(parts);
+    index::fill(&mut board, stretches);
     let mut i: usize = 0;
     while i < 16 {
         let sum = node::steepest(&board, stretches, i);

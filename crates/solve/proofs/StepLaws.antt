@@ -48,7 +48,7 @@ module _ {board : List ℕ} {stretches stored l : List ℤ} (search : Searching 
   net-small =
       let limits = given .ready .laid .limits in
       let m : countOn board * currentBound ≤ branchLimit * currentBound = mul-le-mul (limits .few-branches) (le-refl currentBound) in
-      omega (arith, partial-sum-small N limits (reading stored) (reading l) (given .kept) (given .ranged) i (countOn board) (free .1) (le-refl (countOn board)))
+      omega (arith, partial-sum-small N limits (reading stored) (reading l) (given .kept) (given .ranged) i (countOn board) (λ (j : ℕ). j) (free .1) (λ j l. l))
 
   pub steep-some : 0 < steepestOn board i
   steep-some = rw (given .ready .steepest-sums i free) (omega (arith, leak-steepest N i, given .ready .laid .limits .leaks))

@@ -27,7 +27,7 @@ fn seat_at(top: bool, v: i64) -> i64
 }
 
 // Ground at zero and every free node so; the driven nodes keep their drives.
-fn seat(board: &[u64; 212], top: bool, volts: &mut [i64; 16])
+fn seat(board: &[u64; 293], top: bool, volts: &mut [i64; 16])
     requires { ⌜ (nodesOn (now board) ≤ nodeLimit) × (drivenOn (now board) ≤ nodesOn (now board)) ⌝ }
     ensures { λ _. ⌜ Seated (now (board .entry)) top (now (volts .entry)) (now (volts .exit)) ⌝ }
 {
@@ -44,7 +44,7 @@ fn seat(board: &[u64; 212], top: bool, volts: &mut [i64; 16])
 // Whether no low assignment passes these voltages, by document 01's test of a start: net current at or
 // above zero at each free node.
 fn is_start(
-    board: &[u64; 212],
+    board: &[u64; 293],
     stretches: &[i64; 408],
     stored: &[i64; 32],
     volts: &[i64; 16],
@@ -65,7 +65,7 @@ fn is_start(
 
 // From the top of the range.
 fn from_top(
-    board: &[u64; 212],
+    board: &[u64; 293],
     stretches: &[i64; 408],
     stored: &[i64; 32],
     volts: &mut [i64; 16],
@@ -80,7 +80,7 @@ fn from_top(
 // From voltages in range: settled, certified, climbed. Where there is nothing below them, that decides
 // only if they are a start; else the top of the range does.
 fn from_proposal(
-    board: &[u64; 212],
+    board: &[u64; 293],
     stretches: &[i64; 408],
     stored: &[i64; 32],
     volts: &mut [i64; 16],
@@ -106,7 +106,7 @@ fn from_proposal(
 
 // The answer at the nodes, or that there is none.
 pub fn solve(
-    board: &[u64; 212],
+    board: &[u64; 293],
     stretches: &[i64; 408],
     stored: &[i64; 32],
     volts: &mut [i64; 16],

@@ -46,7 +46,7 @@ fn one_up(v: i64) -> i64
 }
 
 // Every free node raised so.
-fn lift(board: &[u64; 212], volts: &[i64; 16], s: &mut [i64; 16])
+fn lift(board: &[u64; 293], volts: &[i64; 16], s: &mut [i64; 16])
     requires { ⌜ Places (now board) (now volts) × (now s ≡ now volts) ⌝ }
     ensures { λ _. ⌜ Raised (now (board .entry)) (now (volts .entry)) (now (s .exit)) ⌝ }
 {
@@ -60,7 +60,7 @@ fn lift(board: &[u64; 212], volts: &[i64; 16], s: &mut [i64; 16])
 
 // One node: if it is above where it was and its net current is above zero, it goes back.
 fn visit_at(
-    board: &[u64; 212],
+    board: &[u64; 293],
     stretches: &[i64; 408],
     stored: &[i64; 32],
     volts: &[i64; 16],
@@ -83,7 +83,7 @@ fn visit_at(
 
 // One lap, in the order opposite to a sweep's.
 fn visit_all(
-    board: &[u64; 212],
+    board: &[u64; 293],
     stretches: &[i64; 408],
     stored: &[i64; 32],
     volts: &[i64; 16],
@@ -122,7 +122,7 @@ fn visit_all(
 
 // The whole visit for `volts`; s begins as a copy of them, and is the higher one if there is one.
 pub fn certify(
-    board: &[u64; 212],
+    board: &[u64; 293],
     stretches: &[i64; 408],
     stored: &[i64; 32],
     volts: &[i64; 16],

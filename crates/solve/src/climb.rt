@@ -27,7 +27,7 @@ fn raise_by(v: i64, f: i64, s: u64) -> i64
 // One node raised by as much as its steepest sum allows, where its net current is not above zero. Whether
 // it rose.
 fn rise_at(
-    board: &[u64; 212],
+    board: &[u64; 293],
     stretches: &[i64; 408],
     stored: &[i64; 32],
     volts: &mut [i64; 16],
@@ -51,7 +51,7 @@ fn rise_at(
 
 // So every free node, in the order of their numbers. Whether one rose.
 fn rise(
-    board: &[u64; 212],
+    board: &[u64; 293],
     stretches: &[i64; 408],
     stored: &[i64; 32],
     volts: &mut [i64; 16],
@@ -74,7 +74,7 @@ fn rise(
 }
 
 // Until none rises.
-fn ascend(board: &[u64; 212], stretches: &[i64; 408], stored: &[i64; 32], volts: &mut [i64; 16])
+fn ascend(board: &[u64; 293], stretches: &[i64; 408], stored: &[i64; 32], volts: &mut [i64; 16])
     requires { ⌜ Searching (now board) (now stretches) (now stored) (now volts) ⌝ }
     ensures { λ _. ⌜ Up (now (board .entry)) (now (stretches .entry)) (now (stored .entry)) (now (volts .entry)) (now (volts .exit)) ⌝ }
 {
@@ -90,7 +90,7 @@ fn ascend(board: &[u64; 212], stretches: &[i64; 408], stored: &[i64; 32], volts:
 }
 
 // Climb: certified, or higher and certified again.
-pub fn climb(board: &[u64; 212], stretches: &[i64; 408], stored: &[i64; 32], volts: &mut [i64; 16])
+pub fn climb(board: &[u64; 293], stretches: &[i64; 408], stored: &[i64; 32], volts: &mut [i64; 16])
     requires { ⌜ Searching (now board) (now stretches) (now stored) (now volts) ⌝ }
     ensures { λ _. ⌜ Topped (now (board .entry)) (now (stretches .entry)) (now (stored .entry)) (now (volts .entry)) (now (volts .exit)) ⌝ }
 {

@@ -39,7 +39,7 @@ fn reached(b: i64, v: i64, m: u64) -> i64
 }
 
 // All free nodes so.
-fn lead(board: &[u64; 212], from: &[i64; 16], volts: &[i64; 16], m: u64, far: &mut [i64; 16])
+fn lead(board: &[u64; 293], from: &[i64; 16], volts: &[i64; 16], m: u64, far: &mut [i64; 16])
     requires { ⌜ Places (now board) (now volts) × Ranged (now board) (now from) × (m ≤ 2 ^ 26) × (now far ≡ now volts) ⌝ }
     ensures { λ _. ⌜ Led (now (board .entry)) (now (from .entry)) (now (volts .entry)) (now (far .exit)) ⌝ }
 {
@@ -54,7 +54,7 @@ fn lead(board: &[u64; 212], from: &[i64; 16], volts: &[i64; 16], m: u64, far: &m
 // One node at the far end. If it leapt down, its net current has to be above zero there, and it is lowered
 // by one more; if it leapt up, its net current must not be. False if that isn't so.
 fn land_at(
-    board: &[u64; 212],
+    board: &[u64; 293],
     stretches: &[i64; 408],
     stored: &[i64; 32],
     volts: &[i64; 16],
@@ -81,7 +81,7 @@ fn land_at(
 
 // Every free node so, in the order of their numbers. False as soon as one is.
 fn land(
-    board: &[u64; 212],
+    board: &[u64; 293],
     stretches: &[i64; 408],
     stored: &[i64; 32],
     volts: &[i64; 16],
@@ -105,7 +105,7 @@ fn land(
 // Leap: the nodes that came from `from` to `volts` go m times as far again, if the far end proves it.
 // Whether it did.
 fn leap(
-    board: &[u64; 212],
+    board: &[u64; 293],
     stretches: &[i64; 408],
     stored: &[i64; 32],
     from: &[i64; 16],
@@ -126,7 +126,7 @@ fn leap(
 
 // Leaps of one, two, four .. times what was gained, as long as they hold.
 pub fn leaps(
-    board: &[u64; 212],
+    board: &[u64; 293],
     stretches: &[i64; 408],
     stored: &[i64; 32],
     from: &[i64; 16],

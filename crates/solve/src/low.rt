@@ -9,7 +9,7 @@ ghost use Rattle.circuit.specs.Board.{networkOn, Evaluable};
 
 // Whether node i is.
 pub fn is_low(
-    board: &[u64; 212],
+    board: &[u64; 293],
     stretches: &[i64; 408],
     stored: &[i64; 32],
     volts: &[i64; 16],

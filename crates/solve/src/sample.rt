@@ -15,7 +15,7 @@ ghost use Rattle.solve.specs.Answer.{drivesAt};
 ghost use Rattle.solve.specs.Sample.{DrivesTested, TopTested, Playable, Sampled, Leaves};
 
 // Whether every driven node stands at a legal drive.
-fn drives_legal(board: &[u64; 212], volts: &[i64; 16]) -> bool
+fn drives_legal(board: &[u64; 293], volts: &[i64; 16]) -> bool
     requires { ⌜ drivenOn (now board) ≤ 15 ⌝ }
     ensures { λ r. ⌜ DrivesTested (now (board .entry)) (now (volts .entry)) r ⌝ }
 {
@@ -35,7 +35,7 @@ fn drives_legal(board: &[u64; 212], volts: &[i64; 16]) -> bool
 }
 
 // Whether some free node stands at the top of the range.
-fn at_top(board: &[u64; 212], volts: &[i64; 16]) -> bool
+fn at_top(board: &[u64; 293], volts: &[i64; 16]) -> bool
     requires { ⌜ (nodesOn (now board) ≤ 15) × (drivenOn (now board) ≤ nodesOn (now board)) ⌝ }
     ensures { λ r. ⌜ TopTested (now (board .entry)) (now (volts .entry)) r ⌝ }
 {
@@ -56,7 +56,7 @@ fn at_top(board: &[u64; 212], volts: &[i64; 16]) -> bool
 
 // A sample whose drives are legal.
 fn voiced(
-    board: &[u64; 212],
+    board: &[u64; 293],
     stretches: &[i64; 408],
     volts: &mut [i64; 16],
     stored: &mut [i64; 32],
@@ -81,7 +81,7 @@ fn voiced(
 // The driven nodes stand at the sample's drives; the free nodes at any proposal. The search has an array
 // of its own, so that a refusal leaves the voltages too.
 pub fn sample(
-    board: &[u64; 212],
+    board: &[u64; 293],
     stretches: &[i64; 408],
     volts: &mut [i64; 16],
     stored: &mut [i64; 32],

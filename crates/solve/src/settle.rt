@@ -10,7 +10,7 @@ use units::signed;
 use units::voltage::Voltage;
 ghost use mathlib.Core.Path.{_≡_};
 ghost use Prim.Native.Nat.{_^_, _≤_, _<_};
-ghost use lib.IntN.{ℤ, pos, natAbs, _-ℤ_};
+ghost use lib.IntN.{pos, natAbs, _-ℤ_};
 ghost use Rattle.units.specs.Integer.{roundedUp};
 ghost use Rattle.units.specs.Voltage.{InRange};
 ghost use Rattle.network.specs.Network.{Free, reading};
@@ -42,7 +42,7 @@ fn lower_by(v: i64, f: i64, s: u64) -> i64
 
 // Step: one node lowered by as much as its steepest sum allows, where its net current is above zero.
 fn step(
-    board: &[u64; 212],
+    board: &[u64; 293],
     stretches: &[i64; 408],
     stored: &[i64; 32],
     volts: &mut [i64; 16],
@@ -66,7 +66,7 @@ fn step(
 
 // A step at every free node, in the order of their numbers.
 fn sweep(
-    board: &[u64; 212],
+    board: &[u64; 293],
     stretches: &[i64; 408],
     stored: &[i64; 32],
     volts: &mut [i64; 16],
@@ -99,7 +99,7 @@ fn sweep(
 
 // Settle: sweeps and leaps until no net current is above zero.
 pub fn settle(
-    board: &[u64; 212],
+    board: &[u64; 293],
     stretches: &[i64; 408],
     stored: &[i64; 32],
     volts: &mut [i64; 16],

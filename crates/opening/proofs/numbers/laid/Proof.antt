@@ -1,9 +1,9 @@
 use mathlib.Core.Path.{_≡_, refl, sym, _∙_, ap}
 use mathlib.Core.Bool.{true, false}
 use mathlib.Core.List.{List, [], _∷_}
-use Prim.Native.Nat.{ℕ, zero, suc, _+_, _*_, _-_, _≤_, _<_}
+use Prim.Native.Nat.{ℕ, _+_, _*_, _-_, _≤_, _<_}
 use native.Mathlib.Omega.{arith}
-use lib.ListN.{length, getD}
+use lib.ListN.{getD}
 use borrow.Author.Needs.{needs}
 use Rattle.units.specs.Table.{padded, overlaid}
 use Rattle.units.proofs.Tables.{getD-alike}
@@ -15,13 +15,13 @@ use Rattle.image.specs.declared.parts.Curve.{Curve}
 use Rattle.image.specs.declared.parts.Element.{Element}
 use Rattle.image.proofs.Places.{element-there, curve-there}
 use Rattle.circuit.specs.Board.{boardSize}
-use Rattle.opening.specs.Opening.{boardNumber, boardTo}
-use Rattle.opening.proofs.BoardIs.{board-none, elements-more, values-curved, values-straight, elements-all}
+use Rattle.opening.specs.Opening.{laidNumber}
+use Rattle.opening.proofs.LaidIs.{laid-none, elements-more, values-curved, values-straight, elements-all}
 use Rattle.opening.proofs.numbers.laid.Statement.{statement}
 use Rattle.opening.proofs.numbers.laid.Tie as tie
 
 abbrev Inv-loop : tie.InvT-loop
-Inv-loop parts count board₀ j₀ board j = (j ≤ parts .«element_count») × (board ≡ padded 0 boardSize (boardNumber parts plain 0) (20 + 6 * j))
+Inv-loop parts count board₀ j₀ board j = (j ≤ parts .«element_count») × (board ≡ padded 0 boardSize (laidNumber parts plain) (101 + 6 * j))
 
 abbrev μ-loop : tie.MeasureT-loop
 μ-loop parts count board₀ j₀ board j = count - j
@@ -86,7 +86,7 @@ breakpoints c =
 
 loop-holds : tie.Need-loop-holds Inv-loop μ-loop
 unfolding overlaid
-loop-holds c = (omega arith, rw (c .leak .ensures) (board-none (c .before .args .t1) plain))
+loop-holds c = (omega arith, rw (c .leak .ensures) (laid-none (c .before .args .t1) plain))
 
 mul-e : tie.Need-mul-e Inv-loop μ-loop
 mul-e c = search needs
@@ -143,7 +143,7 @@ loop-again c =
     let g = t .before .before .before .conductance in
     let m = getD (s .args .t1 .curves) (e .curve) (record { count = 0; slopes = []; breakpoints = [] }) .count in
     let values : List ℕ = e .kind ∷ e .p ∷ e .q ∷ g .result ∷ 17 * e .curve ∷ m ∷ [] in
-    (omega (arith, l .loop-test .taken), c .put .ensures ∙ ap (λ (b : List ℕ). overlaid b (20 + 6 * j) values) (l .before .loop .inv .1) ∙ elements-more (s .args .t1) plain j values (few l) refl (values-curved (s .args .t1) plain j e (g .result) m (the-element l) (g .ensures ∙ ap (λ (a : Element). conductanceBy (a .kind) (a .value) (s .args .t1 .rate)) (the-element l)) (curved t) (breakpoints t)))
+    (omega (arith, l .loop-test .taken), c .put .ensures ∙ ap (λ (b : List ℕ). overlaid b (101 + 6 * j) values) (l .before .loop .inv .1) ∙ elements-more (s .args .t1) plain j values (few l) refl (values-curved (s .args .t1) plain j e (g .result) m (the-element l) (g .ensures ∙ ap (λ (a : Element). conductanceBy (a .kind) (a .value) (s .args .t1 .rate)) (the-element l)) (curved t) (breakpoints t)))
 
 put-requires-2 : tie.Need-put-requires-2 Inv-loop μ-loop
 put-requires-2 c κs = omega (arith, few (c .before .before .before .before .before .before))
@@ -160,7 +160,7 @@ loop-again-2 c =
     let e = getD (s .args .t1 .elements) j noElement in
     let g = t .before .before .before .conductance in
     let values : List ℕ = e .kind ∷ e .p ∷ e .q ∷ g .result ∷ 0 ∷ 0 ∷ [] in
-    (omega (arith, l .loop-test .taken), c .put2 .ensures ∙ ap (λ (b : List ℕ). overlaid b (20 + 6 * j) values) (l .before .loop .inv .1) ∙ elements-more (s .args .t1) plain j values (few l) refl (values-straight (s .args .t1) plain j e (g .result) (the-element l) (g .ensures ∙ ap (λ (a : Element). conductanceBy (a .kind) (a .value) (s .args .t1 .rate)) (the-element l)) (straight t)))
+    (omega (arith, l .loop-test .taken), c .put2 .ensures ∙ ap (λ (b : List ℕ). overlaid b (101 + 6 * j) values) (l .before .loop .inv .1) ∙ elements-more (s .args .t1) plain j values (few l) refl (values-straight (s .args .t1) plain j e (g .result) (the-element l) (g .ensures ∙ ap (λ (a : Element). conductanceBy (a .kind) (a .value) (s .args .t1 .rate)) (the-element l)) (straight t)))
 
 returns : tie.Need-returns Inv-loop μ-loop
 returns c =
