@@ -1,6 +1,7 @@
-//! Holds the second program's samples against brute force on random circuits.
+//! Holds the second program's samples against brute force on random circuits, and its net currents, which go by each node's elements, against a
+//! look at all.
 //!
-//! Three references, none with sets or steps, all with their own currents (a curve's is a sum of hinges):
+//! Three references of a sample, none with sets or steps, all with their own currents (a curve's is a sum of hinges):
 //! - in a small range, all assignments are gone through, as the definition of the answer says;
 //! - with small currents, nodes are lowered by one microvolt while a net current is above zero;
 //! - with real parts, one node after the other falls from the top to the highest voltage that its net current allows, found by bisection over
@@ -249,6 +250,23 @@ impl Reference {
 
 fn wide(numbers: &[i64]) -> Vec<i128> {
     numbers.iter().map(|&one| one as i128).collect()
+}
+
+/// Net currents of every node, ground and driven ones too: by the node's own elements against a look at all; how many.
+pub fn nets(dice: &mut Dice, rounds: usize) -> usize {
+    let mut nets = 0;
+    for round in 0..rounds {
+        let made = Reference::random(dice, 1 + round % 4, &SMALL, 100);
+        let circuit = image::read(&made.image()).unwrap_or_else(|number| panic!("image refused {number}"));
+        let network = network::Network::new(&circuit);
+        let node: Vec<i64> = (0..=made.nodes).map(|_| dice.roll(-150, 150)).collect();
+        let stored = made.random_stored(dice, 300);
+        for at in 0..=made.nodes {
+            assert_eq!(network.net(at, &wide(&stored), &wide(&node)), made.net(at, &node, &stored) as i128, "round {round}, node {at}");
+            nets += 1;
+        }
+    }
+    nets
 }
 
 /// Samples in a small range against the definition; how many, and how many of them the rail refused.

@@ -52,7 +52,7 @@ impl<'a> Network<'a> {
         }
     }
 
-    /// The sum of all currents leaving a free node.
+    /// The sum of all currents leaving a node.
     pub fn net(&self, at: usize, stored: &[i128], node: &[i128]) -> i128 {
         let leaving = |end: &End| end.sign * self.current(end.element, stored[end.index], node);
         LEAK * node[at] + self.ends[at].iter().map(leaving).sum::<i128>()

@@ -22,4 +22,5 @@ fn main() {
     println!("{samples} samples by bisection, {refused} of them refused by the rail; {given_up} circuits given up");
     let (lists, made_up) = walk::lists(&mut dice, rounds);
     println!("{lists} measured lists walked, {made_up} slopes in them make up for a shortfall");
+    println!("{} net currents, each by the elements that touch its node and by all", brute::nets(&mut dice, rounds));
 }
