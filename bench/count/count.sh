@@ -1,21 +1,22 @@
 #!/bin/sh
 # count.sh [--growth] [--time RUNS [--before MODULE.ll]]: what a sample of the proved block costs, by circuit, on this machine's own processor.
 # count.sh --curves [--time RUNS] [--before MODULE.ll]: nanoseconds of one net current and of one sample, by a curve's length and its voltage's stretch.
+# count.sh --touching [--time RUNS] [--before MODULE.ll]: the same and a call of no samples, by a circuit's elements and by those that touch the node.
 #
 # Evaluations of a node's net current, from a block with a counter in it; with --time also nanoseconds of the block as it is and of the f64
-# simulator, the median of RUNS runs. The rows are rows.txt's, with --growth growth.txt's. --curves times in any case, with 5 runs unless told. With
+# simulator, the median of RUNS runs. The rows are rows.txt's, with --growth growth.txt's. --curves and --touching time in any case, with 5 runs unless told. With
 # --before, the times of another block stand beside them: MODULE.ll is what module.sh makes of another commit.
 set -eu
 cd "$(dirname "$0")/../.."
 usage() {
-    echo "count.sh [--growth] [--time RUNS [--before MODULE.ll]], or count.sh --curves [--time RUNS] [--before MODULE.ll]" >&2
+    echo "count.sh [--growth] [--time RUNS [--before MODULE.ll]], or count.sh --curves|--touching [--time RUNS] [--before MODULE.ll]" >&2
     exit 2
 }
-rows=rows runs= before=
+rows=rows runs= before= one_net=
 while [ $# -gt 0 ]; do
     case $1 in
     --growth) rows=growth ;;
-    --curves) rows=curves ;;
+    --curves | --touching) rows=${1#--} one_net=yes ;;
     --time)
         runs=$2
         shift
@@ -28,7 +29,7 @@ while [ $# -gt 0 ]; do
     esac
     shift
 done
-[ $rows != curves ] || runs=${runs:-5}
+[ -z "$one_net" ] || runs=${runs:-5}
 [ -z "$before" ] || [ -n "$runs" ] || usage
 mkdir -p target/bench
 bench/native/module.sh target/bench/block.ll
@@ -41,15 +42,15 @@ linked() {
 # The programs that time the module $1; $2 is added to their names.
 timed() {
     linked "$1" host "time$2"
-    if [ $rows = curves ]; then
+    if [ -n "$one_net" ]; then
         python3 bench/count/instrument.py open "$1" "target/bench/open$2.ll"
         linked "target/bench/open$2.ll" net "net$2"
     fi
 }
 timed target/bench/block.ll ''
 [ -z "$before" ] || timed "$before" -before
-if [ $rows = curves ]; then
-    exec python3 bench/count/curves.py "$runs" ${before:+--before}
+if [ -n "$one_net" ]; then
+    exec python3 "bench/count/$rows.py" "$runs" ${before:+--before}
 fi
 python3 bench/count/instrument.py count target/bench/block.ll target/bench/counted.ll
 linked target/bench/counted.ll host count
