@@ -106,7 +106,7 @@ module _ (board : List ℕ) (stretches : List ℤ) (laid : Laid board stretches)
         let j = getD (elementsAt N i) t 0 in
         ap (λ (e : ℕ). e / 2) (end-there t h) ∙ half j (eqb i (N .branch j .p)) (eqb i (N .branch j .q))
 
-    many-is : manyOn board i ≡ length (elementsAt N i)
+    pub many-is : manyOn board i ≡ length (elementsAt N i)
     many-is = omega (arith, after-is)
 
     -- under node i stand exactly the elements that touch it, once, in image order

@@ -21,7 +21,7 @@ use Rattle.network.proofs.Elements.{net-over, held-over, steepest-over}
 use Rattle.circuit.specs.Index.{endNumber}
 use Rattle.circuit.specs.Board.{leakOn, nodesOn, countOn, kindOn, pOn, qOn, startOn, endOn, branchOn, networkOn, heldFrom, Laid, Evaluable, flowOn, nodeOn, otherOn, leavingOn}
 use Rattle.circuit.proofs.BoardLaws.{few-elements}
-use Rattle.circuit.proofs.IndexLaws.{half, after-is, after-fits, end-there}
+use Rattle.circuit.proofs.IndexLaws.{half, after-fits, end-there, many-is}
 
 -- ---- what an element adds at a node, told by the end that the node is
 
@@ -92,7 +92,7 @@ module _ (board : List ℕ) (stretches : List ℤ) (laid : Laid board stretches)
   element = getD (elementsAt (networkOn board stretches) i) place 0
 
   listed : place < length (elementsAt (networkOn board stretches) i)
-  listed = omega (arith, after-is board stretches laid i there)
+  listed = omega (arith, many-is board stretches laid i there)
 
   end-here : endOn board k ≡ endNumber (networkOn board stretches) i element
   end-here = let e : k ≡ startOn board i + place = omega arith in ap (endOn board) e ∙ end-there board stretches laid i there place listed
@@ -149,7 +149,7 @@ module _ (board : List ℕ) (stretches stored volts : List ℤ) (given : Evaluab
 
   pub net-all : netTo board stretches stored volts i (startOn board (i + 1)) ≡ net 1 (networkOn board stretches) (reading stored) (reading volts) i
   unfolding netTo
-  net-all = let e : startOn board (i + 1) - startOn board i ≡ length (elementsAt (networkOn board stretches) i) = omega (arith, after-is board stretches laid i there) in rw e (net-over (networkOn board stretches) i 1 (reading stored) (reading volts))
+  net-all = rw (many-is board stretches laid i there) (net-over (networkOn board stretches) i 1 (reading stored) (reading volts))
 
   module _ (k : ℕ) (low : startOn board i ≤ k) (high : k < startOn board (i + 1)) where
     pub net-more : netTo board stretches stored volts i (k + 1) ≡ netTo board stretches stored volts i k +ℤ leavingOn board stretches stored volts (endOn board k)
@@ -164,15 +164,16 @@ module _ (board : List ℕ) (stretches stored volts : List ℤ) (given : Evaluab
     net-fits-more =
         let N = networkOn board stretches in
         let limits = laid .limits in
-        let listed : k - startOn board i < length (elementsAt N i) = omega (arith, after-is board stretches laid i there) in
+        let here = listed board stretches laid i there k low high in
         let element : ℕ → ℕ = λ t. getD (elementsAt N i) t 0 in
         omega (
           arith,
           few-elements board stretches laid,
+          here,
           named-few (touches N i) (countOn board),
-          partial-sum-small N limits (reading stored) (reading volts) (given .kept) (given .ranged) i (k - startOn board i) element there (λ t l. named-holds (touches N i) (countOn board) t (omega arith) .0),
+          partial-sum-small N limits (reading stored) (reading volts) (given .kept) (given .ranged) i (k - startOn board i) element there (λ t l. named-holds (touches N i) (countOn board) t (omega (arith, here)) .0),
           ap natAbs (leaving-here board stretches laid i there k low high stored volts),
-          leaving-fits N limits (reading stored) (reading volts) (given .kept) (given .ranged) i (element (k - startOn board i)) (named-holds (touches N i) (countOn board) (k - startOn board i) listed .0),
+          leaving-fits N limits (reading stored) (reading volts) (given .kept) (given .ranged) i (element (k - startOn board i)) (element-here board stretches laid i there k low high),
         )
 
 -- ---- held conductance and steepest sum
@@ -199,14 +200,11 @@ module _ (board : List ℕ) (i : ℕ) (f : ℕ → ℕ) where
   added-grows k n l = omega (arith, total-grows f (k - startOn board i) (n - startOn board i) (omega arith))
 
 module _ (board : List ℕ) (stretches : List ℤ) (laid : Laid board stretches) (i : ℕ) (there : i ≤ nodesOn board) where
-  all-of-them : startOn board (i + 1) - startOn board i ≡ length (elementsAt (networkOn board stretches) i)
-  all-of-them = omega (arith, after-is board stretches laid i there)
-
   pub held-all : added board (heldEach board stretches i) i (startOn board (i + 1)) ≡ held (networkOn board stretches) i
-  held-all = rw all-of-them (held-over (networkOn board stretches) i)
+  held-all = rw (many-is board stretches laid i there) (held-over (networkOn board stretches) i)
 
   pub steepest-all : added board (steepestEach board stretches i) i (startOn board (i + 1)) ≡ steepest (networkOn board stretches) i
-  steepest-all = rw all-of-them (steepest-over (networkOn board stretches) i)
+  steepest-all = rw (many-is board stretches laid i there) (steepest-over (networkOn board stretches) i)
 
   -- one more, and it still fits
   module _ (k : ℕ) (low : startOn board i ≤ k) (high : k < startOn board (i + 1)) where

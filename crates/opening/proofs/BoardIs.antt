@@ -138,15 +138,15 @@ module _ (parts : Parts) (setting : Setting) where
     past = λ i h. padded-past 0 boardSize (laidNumber parts setting) boardSize i h;
   }
 
+  network-laid : Sound parts → networkOn (laidOf parts setting) (stretchesOf parts) ≡ networkAt parts setting
+  network-laid sound = network-shown parts setting (laidOf parts setting) laid-shows sound
+
   pub unindexed : Sound parts → InLimits (networkAt parts setting) → Unindexed (laidOf parts setting) (stretchesOf parts)
   unindexed sound limits = record {
-    limits = rw (network-shown parts setting (laidOf parts setting) laid-shows sound) limits;
+    limits = rw (network-laid sound) limits;
     blank = λ k h. laid-at (20 + k) (omega arith) ∙ laid-zero parts setting (20 + k) (omega arith) (omega arith);
     long = laid-length;
   }
-
-  pub network-laid : Sound parts → networkOn (laidOf parts setting) (stretchesOf parts) ≡ networkAt parts setting
-  network-laid sound = network-shown parts setting (laidOf parts setting) laid-shows sound
 
 -- ---- with the index, and the steepest sums of the first n nodes
 
