@@ -95,7 +95,8 @@ def sample(image, volts, stored):
         return print('  a stored current is beyond its limit')
     n = len(c.elements)
     line = '  flow' + row(*(c.flow(j, volts, stored) for j in range(n)))
-    line += ' net' + row(*(c.net(i, volts, stored) for i in range(c.nodes + 1)))
+    nets = row(*(c.net(i, volts, stored) for i in range(c.nodes + 1)))
+    line += ' net' + nets + ' moved' + nets
     new = c.advance(volts, stored)
     after = stored if new is None else new
     print(line + (' beyond' if new is None else ' stored') + row(*after[:n + 1]))

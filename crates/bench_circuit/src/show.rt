@@ -5,12 +5,14 @@ use circuit::board;
 use circuit::bound;
 use circuit::bound::Bound;
 use circuit::branch;
+use circuit::nets;
 use circuit::node;
 use libc::STDOUT_FILENO;
 use units::signed;
 ghost use mathlib.Core.Path.{_≡_};
 ghost use lib.ListN.{length};
 ghost use Rattle.circuit.specs.Board.{Laid, Evaluable};
+ghost use Rattle.circuit.specs.Nets.{Netted};
 
 pub fn text(s: &[u8]) {
     io::write_all(STDOUT_FILENO, s);
@@ -124,6 +126,41 @@ fn nets(board: &[u64; 293], stretches: &[i64; 408], stored: &[i64; 32], volts: &
     }
 }
 
+// Every node is moved from zero volts to its voltage, one after the other.
+fn move_all(
+    board: &[u64; 293],
+    stretches: &[i64; 408],
+    stored: &[i64; 32],
+    volts: &[i64; 16],
+    at: &mut [i64; 16],
+    nets: &mut [i64; 16],
+)
+    requires { ⌜ Evaluable (now board) (now stretches) (now stored) (now volts) × Evaluable (now board) (now stretches) (now stored) (now at) × (length (now at) ≡ 16) × Netted (now board) (now stretches) (now stored) (now at) (now nets) ⌝ }
+{
+    let nodes = board::nodes(board);
+    let mut i: usize = 0;
+    while i <= nodes {
+        nets::move_to(board, stretches, stored, i, volts[i], at, nets);
+        i += 1;
+    }
+}
+
+// The same net currents, as such moves leave them.
+fn moved(board: &[u64; 293], stretches: &[i64; 408], stored: &[i64; 32], volts: &[i64; 16])
+    requires { ⌜ Evaluable (now board) (now stretches) (now stored) (now volts) ⌝ }
+{
+    let mut at = [0i64; 16];
+    let mut nets = nets::taken(board, stretches, stored, &at);
+    move_all(board, stretches, stored, volts, &mut at, &mut nets);
+    let nodes = board::nodes(board);
+    text(b" moved");
+    for i in 0..16usize {
+        if i <= nodes {
+            one_signed(nets[i]);
+        }
+    }
+}
+
 // The stored currents of n elements, and the one in the place after them.
 fn row(x: &[i64; 32], n: usize) {
     for j in 0..32usize {
@@ -155,5 +192,6 @@ pub fn sample(board: &[u64; 293], stretches: &[i64; 408], volts: &[i64; 16], sto
 {
     flows(board, stretches, stored, volts);
     nets(board, stretches, stored, volts);
+    moved(board, stretches, stored, volts);
     advanced(board, stretches, volts, stored);
 }

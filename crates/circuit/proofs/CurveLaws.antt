@@ -7,10 +7,10 @@ use lib.IntN.{ℤ, pos, natAbs, _+ℤ_, _-ℤ_, _*ℤ_}
 use lib.ListN.{length, getD, drop}
 use lib.Seq.{drop-cons, ext-getD}
 use Rattle.units.specs.Voltage.{Within}
-use Rattle.units.proofs.Integers.{signs, add-law, sub-law}
+use Rattle.units.proofs.Integers.{signs, add-law, sub-law, scale-sub}
 use Rattle.units.proofs.Sizes.{abs-sub}
 use Rattle.units.proofs.Tables.{tabulate-length, tabulate-at}
-use Rattle.network.specs.Network.{curve, reading, greatest, breakpointLimit, conductanceLimit}
+use Rattle.network.specs.Network.{curve, reading, greatest, breakpointLimit, conductanceLimit, currentBound}
 use Rattle.network.proofs.Ranges.{product-fits, current-small}
 use Rattle.circuit.specs.Stretch.{stretchOf, breakpointIn, slopeIn, atZeroIn, slopesIn, breakpointsIn, curveCurrent, CurveReady}
 use Rattle.circuit.proofs.StretchLaws.{curve-line, stretch-there}
@@ -75,6 +75,9 @@ module _ (stretches : List ℤ) (first m : ℕ) where
         let there : j ≤ m = omega (arith, stretch-few) in
         rw (ready .at-zero j there, ← (slope-in j there), e) (sym (curve-line (slopesIn stretches first m) (breakpointsIn stretches first m) (pos 0) v (ready .limits .stretches) (ready .limits .rising)))
 
+    pub carried-fits : Within breakpointLimit v → natAbs (curveCurrent stretches first m v) ≤ currentBound
+    carried-fits near = current-small (curve (slopesIn stretches first m) (breakpointsIn stretches first m)) (pos 0) v (ready .limits) near (omega arith)
+
     pub line-fits : Within breakpointLimit v → (j : ℕ) → j ≡ stretchOf (breakpointsIn stretches first m) v → natAbs (pos (slopeIn stretches (first + j)) *ℤ v) + natAbs (atZeroIn stretches (first + j)) < 2 ^ 63
     line-fits near j e =
         let a = pos (slopeIn stretches (first + j)) *ℤ v in
@@ -84,7 +87,15 @@ module _ (stretches : List ℤ) (first m : ℕ) where
         omega (
           arith,
           product-fits (slopeIn stretches (first + j)) v (slope-fits j (omega (arith, stretch-few))) near,
-          current-small (curve (slopesIn stretches first m) (breakpointsIn stretches first m)) (pos 0) v (ready .limits) near (omega arith),
+          carried-fits near,
           abs-sub k a,
           ap natAbs is,
         )
+
+  -- on one stretch it rises by the slope times the way
+  pub one-line : (ready : CurveReady stretches first m) (from to : ℤ) (j : ℕ) → j ≡ stretchOf (breakpointsIn stretches first m) from → j ≡ stretchOf (breakpointsIn stretches first m) to → pos (slopeIn stretches (first + j)) *ℤ (to -ℤ from) ≡ curveCurrent stretches first m to -ℤ curveCurrent stretches first m from
+  one-line ready from to j e f =
+      let g = slopeIn stretches (first + j) in
+      let z = atZeroIn stretches (first + j) in
+      rw (← line-is ready to j f, ← line-is ready from j e, scale-sub g to from)
+      (omega (signs, sub-law (pos g *ℤ to) (pos g *ℤ from), sub-law (pos g *ℤ to +ℤ z) (pos g *ℤ from +ℤ z), add-law (pos g *ℤ to) z, add-law (pos g *ℤ from) z))

@@ -6,7 +6,9 @@ pub mod DrawingLaws
 pub mod FillingLaws
 pub mod Halving
 pub mod IndexLaws
+pub mod NetLaws
 pub mod NodeLaws
 pub mod Once
 pub mod PlaceLaws
+pub mod ShiftLaws
 pub mod StretchLaws

@@ -16,6 +16,7 @@ use Rattle.units.proofs.Sizes.{sum-more, total-none, total-more, total-grows}
 use Rattle.network.specs.Network.{Network, pick, reading, leaving, net, conductanceOf, steepestOf, heldBy, held, steepestBy, steepest, leakLimit}
 use Rattle.network.specs.Kind.{hasCurve}
 use Rattle.network.specs.Elements.{touches, elementsAt}
+use Rattle.network.specs.Move.{otherEnd}
 use Rattle.network.proofs.Ranges.{leaving-fits, partial-sum-small, held-fits, steepest-fits}
 use Rattle.network.proofs.Elements.{net-over, held-over, steepest-over}
 use Rattle.circuit.specs.Index.{endNumber}
@@ -73,6 +74,10 @@ module _ (board : List ℕ) (stretches : List ℤ) (i j : ℕ) where
         go false true e f h = sym (eqb-true i (qOn board j) f)
         go false false e f h = absurd (true≢false (sym h))
 
+    pub other-by : otherOn board (endNumber N i j) ≡ otherEnd N i j
+    unfolding branchOn
+    other-by = rw (half j s t) (told (qOn board j) (pOn board j) 0 j s t here)
+
     pub held-by : heldFrom board (endNumber N i j / 2) (otherOn board (endNumber N i j)) ≡ heldBy N (branchOn board stretches j) i
     unfolding branchOn
     held-by = rw (half j s t) (held-either (eqb ((2 * j + pick s t 0 1 0) % 2) 0) ∙ told (heldFrom board j (qOn board j)) (heldFrom board j (pOn board j)) 0 j s t here ∙ sym held-is)
@@ -88,7 +93,7 @@ module _ (board : List ℕ) (stretches : List ℤ) (laid : Laid board stretches)
   abbrev place : ℕ
   place = k - startOn board i
 
-  abbrev element : ℕ
+  abbrev pub element : ℕ
   element = getD (elementsAt (networkOn board stretches) i) place 0
 
   listed : place < length (elementsAt (networkOn board stretches) i)
@@ -97,10 +102,10 @@ module _ (board : List ℕ) (stretches : List ℤ) (laid : Laid board stretches)
   end-here : endOn board k ≡ endNumber (networkOn board stretches) i element
   end-here = let e : k ≡ startOn board i + place = omega arith in ap (endOn board) e ∙ end-there board stretches laid i there place listed
 
-  here : touches (networkOn board stretches) i element ≡ true
+  pub here : touches (networkOn board stretches) i element ≡ true
   here = named-holds (touches (networkOn board stretches) i) (countOn board) place listed .1
 
-  element-here : element < countOn board
+  pub element-here : element < countOn board
   element-here = named-holds (touches (networkOn board stretches) i) (countOn board) place listed .0
 
   pub place-fits : k < 64
@@ -115,6 +120,9 @@ module _ (board : List ℕ) (stretches : List ℤ) (laid : Laid board stretches)
 
   pub node-here : nodeOn board (endOn board k) ≡ i
   node-here = ap (nodeOn board) end-here ∙ node-by board stretches i element here
+
+  pub other-here : otherOn board (endOn board k) ≡ otherEnd (networkOn board stretches) i element
+  other-here = ap (otherOn board) end-here ∙ other-by board stretches i element here
 
   pub leaving-here : (stored volts : List ℤ) → leavingOn board stretches stored volts (endOn board k) ≡ leaving 1 (branchOn board stretches element) (reading stored element) (reading volts) i
   leaving-here stored volts = ap (leavingOn board stretches stored volts) end-here ∙ leaving-by board stretches i element here stored volts

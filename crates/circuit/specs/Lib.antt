@@ -2,5 +2,7 @@ pub mod Advance
 pub mod Board
 pub mod Bound
 pub mod Index
+pub mod Nets
 pub mod Places
+pub mod Shift
 pub mod Stretch

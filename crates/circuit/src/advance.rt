@@ -9,7 +9,7 @@ ghost use lib.ListN.{length};
 ghost use Rattle.units.specs.Voltage.{Within, within};
 ghost use Rattle.network.specs.Network.{storedLimit};
 ghost use Rattle.circuit.specs.Board.{countOn, Laid, Ranged, Evaluable};
-ghost use Rattle.circuit.specs.Advance.{Twice, nextOn, AllKept, StoredTo, Advancing};
+ghost use Rattle.circuit.specs.Advance.{Twice, nextOn, Advancing};
 
 // The limit of a stored current, in femtoamperes.
 pub const LIMIT: u64 = 144115188075855872;
@@ -54,41 +54,8 @@ fn next(board: &[u64; 293], stretches: &[i64; 408], volts: &[i64; 16], j: usize,
     0
 }
 
-// Whether every new stored current is within its limit.
-fn all_kept(
-    board: &[u64; 293],
-    stretches: &[i64; 408],
-    volts: &[i64; 16],
-    stored: &[i64; 32],
-) -> bool
-    requires { ⌜ Evaluable (now board) (now stretches) (now stored) (now volts) ⌝ }
-    ensures { λ r. ⌜ AllKept (now (board .entry)) (now (stretches .entry)) (now (volts .entry)) (now (stored .entry)) r ⌝ }
-{
-    let count = board::count(board);
-    let mut j: usize = 0;
-    while j < count {
-        if !is_kept(next(board, stretches, volts, j, stored[j])) {
-            return false;
-        }
-        j += 1;
-    }
-    true
-}
-
-// Stores every new stored current. Each depends on its own old one alone, so that it can take its place.
-fn store_all(board: &[u64; 293], stretches: &[i64; 408], volts: &[i64; 16], stored: &mut [i64; 32])
-    requires { ⌜ Evaluable (now board) (now stretches) (now stored) (now volts) × (length (now stored) ≡ 32) ⌝ }
-    ensures { λ _. ⌜ StoredTo (now (board .entry)) (now (stretches .entry)) (now (volts .entry)) (now (stored .entry)) (countOn (now (board .entry))) (now (stored .exit)) ⌝ }
-{
-    let count = board::count(board);
-    let mut j: usize = 0;
-    while j < count {
-        stored[j] = next(board, stretches, volts, j, stored[j]);
-        j += 1;
-    }
-}
-
-// All stored currents after a sample with these voltages, if every one is within its limit.
+// All stored currents after a sample with these voltages, if every one is within its limit. They are gathered
+// apart, and stored whole once the last is tested.
 pub fn advance(
     board: &[u64; 293],
     stretches: &[i64; 408],
@@ -98,9 +65,17 @@ pub fn advance(
     requires { ⌜ Evaluable (now board) (now stretches) (now stored) (now volts) × (length (now stored) ≡ 32) ⌝ }
     ensures { λ r. ⌜ Advancing (now (board .entry)) (now (stretches .entry)) (now (volts .entry)) (now (stored .entry)) r (now (stored .exit)) ⌝ }
 {
-    if all_kept(board, stretches, volts, stored) {
-        store_all(board, stretches, volts, stored);
-        return Advanced::Stored;
+    let count = board::count(board);
+    let mut new = *stored;
+    let mut j: usize = 0;
+    while j < count {
+        let x = next(board, stretches, volts, j, stored[j]);
+        if !is_kept(x) {
+            return Advanced::Beyond;
+        }
+        new[j] = x;
+        j += 1;
     }
-    Advanced::Beyond
+    *stored = new;
+    Advanced::Stored
 }

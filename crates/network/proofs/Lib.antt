@@ -14,4 +14,5 @@ pub mod Louder
 pub mod Demand3
 pub mod Ranges
 pub mod Elements
+pub mod Moves
 pub mod Cases

@@ -4,4 +4,5 @@ pub mod Elements
 pub mod Sample
 pub mod Bound
 pub mod Search
+pub mod Move
 pub mod Cases

@@ -114,6 +114,20 @@ module _ (f : ℕ → Bool) where
       go few true e = omega (arith, taken n e)
       go few false e = omega (arith, ap (λ (l : List ℕ). length l) (left n e))
 
+  -- the first t of them are all of those below some number
+  pub named-part : (n t : ℕ) → t ≤ length (numbersWhere f n) → (m : ℕ) × (m ≤ n) × (length (numbersWhere f m) ≡ t) × ((u : ℕ) → u < t → getD (numbersWhere f n) u 0 ≡ getD (numbersWhere f m) u 0)
+  named-part zero t h = (0, omega arith, omega (arith, named-none), λ u l. absurd (omega (arith, named-none)))
+  named-part (suc n) t h = ⊎-elim
+      (λ (l : t ≤ many n).
+      let is = named-part n t l in
+      (is .0, omega (arith, is .1), is .2, λ u k. before n u (omega arith) ∙ is .3 u k))
+      (λ (l : many n < t). (suc n, omega arith, omega (arith, go (f n) refl), λ u k. refl))
+      (decideN t (many n))
+    where
+      go : (b : Bool) → f n ≡ b → many (suc n) ≤ many n + 1
+      go true e = omega (arith, taken n e)
+      go false e = omega (arith, ap (λ (l : List ℕ). length l) (left n e))
+
   -- ---- what is zero for all others adds up the same over those that are named
 
   module _ (g : ℕ → ℤ) (zeros : (j : ℕ) → f j ≡ false → g j ≡ pos 0) where
@@ -131,6 +145,13 @@ module _ (f : ℕ → Bool) where
             ∙ sum-more h (many n)
             ∙ rw (sum-same h (λ (t : ℕ). g (at n t)) (many n) (λ t l. ap g (before n t l)), so, last n e)
         go so false e = ap (λ (l : List ℕ). sum (λ (t : ℕ). g (getD l t 0)) (length l)) (left n e) ∙ so ∙ rw (zeros n e) (sym (+ℤ-idr (sum g n)))
+
+    -- .. and over the first t of them to what it does below some number
+    pub sum-named-part : (n t : ℕ) → t ≤ length (numbersWhere f n) → (m : ℕ) × (m ≤ n) × (sum (λ (u : ℕ). g (getD (numbersWhere f n) u 0)) t ≡ sum g m)
+    sum-named-part n t h =
+        let is = named-part n t h in
+        let m = is .0 in
+        (m, is .1, sum-same (λ (u : ℕ). g (at n u)) (λ (u : ℕ). g (at m u)) t (λ u l. ap g (is .3 u l)) ∙ ap (sum (λ (u : ℕ). g (at m u))) (sym (is .2)) ∙ sum-named m)
 
   module _ (g : ℕ → ℕ) (zeros : (j : ℕ) → f j ≡ false → g j ≡ 0) where
     pub total-named : (n : ℕ) → total (λ (t : ℕ). g (getD (numbersWhere f n) t 0)) (length (numbersWhere f n)) ≡ total g n

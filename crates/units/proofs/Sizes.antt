@@ -1,5 +1,5 @@
 -- How large a signed number, a sum or a quotient can be. Assumes nothing.
-use mathlib.Core.Path.{_≡_, refl}
+use mathlib.Core.Path.{_≡_, refl, ap}
 use mathlib.Core.Logic.{⊎-elim}
 use Prim.Native.Nat.{ℕ, zero, suc, _+_, _*_, _-_, _/_, _≤_, _<_}
 use native.Mathlib.Omega.{arith}
@@ -7,7 +7,7 @@ use native.Mathlib.Nat.{le-refl, suc-mul, mul-add, mul-div-le, lt-mul-div-succ}
 use native.Mathlib.Numerals.{add-one}
 use lib.IntN.{ℤ, pos, negsuc, negℤ, natAbs, _+ℤ_, _-ℤ_, _*ℤ_}
 use Rattle.units.specs.Integer.{up, dn, sum, total, roundedUp}
-use Rattle.units.proofs.Integers.{add-law, sub-law, abs-law, one-sided, decideN}
+use Rattle.units.proofs.Integers.{signs, add-law, sub-law, abs-law, one-sided, decideN}
 
 -- |z| is the least sum of two numbers whose difference is z
 pub abs-least : (z : ℤ) (x y : ℕ) → up z + y ≡ dn z + x → natAbs z ≤ x + y
@@ -49,6 +49,37 @@ pub sum-abs : (f : ℕ → ℤ) (b n : ℕ) → ((i : ℕ) → i < n → natAbs 
 unfolding sum
 sum-abs f b zero h = omega arith
 sum-abs f b (suc n) h = omega (arith, abs-add (sum f n) (f n), sum-abs f b n (λ i l. h i (omega arith)), h n (omega arith), suc-mul n b)
+
+-- what f changes to g by, added to f's sum
+pub sum-changed : (f g : ℕ → ℤ) (n : ℕ) → sum f n +ℤ sum (λ (i : ℕ). g i -ℤ f i) n ≡ sum g n
+unfolding sum
+sum-changed f g zero = refl
+sum-changed f g (suc n) =
+    let d = sum (λ (i : ℕ). g i -ℤ f i) n in
+    let so = sum-changed f g n in
+    omega (
+      signs,
+      add-law (sum f n +ℤ f n) (d +ℤ (g n -ℤ f n)),
+      add-law (sum f n) (f n),
+      add-law d (g n -ℤ f n),
+      sub-law (g n) (f n),
+      add-law (sum g n) (g n),
+      add-law (sum f n) d,
+    )
+
+-- .. and where only the first m have changed, the sum is no larger than those of f and of g can be
+pub mixed-abs : (f g : ℕ → ℤ) (b n m : ℕ) → m ≤ n → ((i : ℕ) → i < n → (natAbs (f i) ≤ b) × (natAbs (g i) ≤ b)) → natAbs (sum f n +ℤ sum (λ (i : ℕ). g i -ℤ f i) m) ≤ n * b
+unfolding sum
+mixed-abs f g b zero m l h = let e : m ≡ 0 = omega arith in rw e (omega arith)
+mixed-abs f g b (suc n) m l h = ⊎-elim
+    (λ (early : m ≤ n).
+    let d = sum (λ (i : ℕ). g i -ℤ f i) m in
+    let e : sum f (suc n) +ℤ d ≡ (sum f n +ℤ d) +ℤ f n = omega (signs, add-law (sum f n +ℤ f n) d, add-law (sum f n) (f n), add-law (sum f n +ℤ d) (f n), add-law (sum f n) d) in
+    omega (arith, ap natAbs e, abs-add (sum f n +ℤ d) (f n), mixed-abs f g b n m early (λ i k. h i (omega arith)), h n (omega arith) .0, suc-mul n b))
+    (λ (late : n < m).
+    let e : m ≡ suc n = omega arith in
+    rw (e, sum-changed f g (suc n)) (sum-abs g b (suc n) (λ i k. h i k .1)))
+    (decideN m n)
 
 pub total-none : (f : ℕ → ℕ) → total f 0 ≡ 0
 unfolding total
