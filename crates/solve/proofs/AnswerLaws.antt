@@ -9,7 +9,7 @@ use lib.Seq.{getD-set-same, getD-set-other}
 use Rattle.units.specs.Voltage.{InRange}
 use Rattle.units.proofs.Integers.{scale-one}
 use Rattle.network.specs.Network.{Network, reading}
-use Rattle.network.specs.Sample.{Legal, Low, Above}
+use Rattle.network.specs.Sample.{Legal, Above}
 use Rattle.network.proofs.Nodes.{by-node}
 use Rattle.network.proofs.Hold.{start, top-start}
 use Rattle.network.proofs.Ranges.{legal-in-range}
@@ -17,14 +17,14 @@ use Rattle.network.proofs.Settle.{settling-start, settled-answer, none-empty}
 use Rattle.circuit.specs.Board.{nodesOn, drivenOn, networkOn, Ready, Evaluable}
 use Rattle.solve.specs.declared.settle.Rest.{Rest}
 use Rattle.solve.specs.declared.settle.Rest.the-variants.{Found, Nothing}
-use Rattle.solve.specs.Search.{Searching, Down, Nowhere, Came}
+use Rattle.solve.specs.Search.{Down, Nowhere, Came}
 use Rattle.solve.specs.Climb.{Topped}
 use Rattle.solve.specs.Answer.{drivesAt, SeatedAt, Seated, Start, Ended, Solvable, Solved}
 
 -- ---- where it begins
 
 module _ {board : List ℕ} {top : Bool} {before after : List ℤ} (seated : Seated board top before after) where
-  ground : reading after 0 ≡ pos 0
+  pub ground : reading after 0 ≡ pos 0
   ground = seated .places .same 0 (omega arith) ∙ getD-set-same before 0 (pos 0) (pos 0) (omega (arith, seated .long))
 
   -- the driven nodes keep their drives
@@ -52,11 +52,8 @@ module _ {board : List ℕ} {top : Bool} {before after : List ℤ} (seated : Sea
       fixed zero l = rw ground (omega arith)
       fixed (suc j) l = rw (driven j l) (e .ranged (suc j) (omega (arith, e .ready .laid .limits .wired .driven-there)))
 
-  pub seated-searching : {stretches stored : List ℤ} → Solvable board stretches stored before → Searching board stretches stored after
-  seated-searching {stretches} s = record {
-    evaluable = record { ready = s .ready; kept = s .kept; ranged = legal-in-range (networkOn board stretches) (drivesAt before) (reading after) (seated-own stretches) (s .drives) };
-    long = seated .places .long;
-  }
+  pub seated-begun : {stretches stored : List ℤ} → Solvable board stretches stored before → Evaluable board stretches stored after
+  seated-begun {stretches} s = record { ready = s .ready; kept = s .kept; ranged = legal-in-range (networkOn board stretches) (drivesAt before) (reading after) (seated-own stretches) (s .drives) }
 
 -- ---- how it ends
 
@@ -74,8 +71,8 @@ module _ (board : List ℕ) (stretches stored before after : List ℤ) where
     top-ended Nothing h = λ d legal. none-empty N (reading stored) d (reading top) (above d legal) (h d (reading top) (settling-start N (reading stored) d (reading top) (seated-again seated stretches d legal)))
 
   -- from a proposal: settled and climbed
-  pub climbed : {rest : List ℤ} → Down board stretches stored before rest → Low (networkOn board stretches) (reading stored) (reading rest) → Topped board stretches stored rest after → Ended board stretches stored before after Found
-  climbed down low topped d legal = topped d (down .settling d (reading before) (settling-start N (reading stored) d (reading before) legal) .legal) low
+  pub climbed : {rest : List ℤ} → Down board stretches stored before rest → Topped board stretches stored rest after → Ended board stretches stored before after Found
+  climbed down topped d legal = topped d (down .settling d (reading before) (settling-start N (reading stored) d (reading before) legal) .legal)
 
   -- nothing below a start
   pub start-nothing : Ready board stretches → Start board stretches stored before → Nowhere board stretches stored before → Ended board stretches stored before after Nothing

@@ -10,9 +10,13 @@ use lib.ListN.{length, set, length-set}
 use lib.Seq.{getD-set-same, getD-set-other}
 use borrow.Author.Tests.{eqb-true, eqb-false}
 use Rattle.units.specs.Voltage.{InRange}
-use Rattle.network.specs.Network.{reading}
-use Rattle.circuit.specs.Board.{nodesOn, drivenOn, Ranged}
-use Rattle.solve.specs.Search.{Searching, Places, Changed}
+use Rattle.units.proofs.Integers.{scale-one}
+use Rattle.network.specs.Network.{Free, reading}
+use Rattle.network.specs.Sample.{Legal}
+use Rattle.circuit.specs.Board.{nodesOn, drivenOn, networkOn, Ranged}
+use Rattle.circuit.specs.Nets.{Moved}
+use Rattle.solve.specs.Answer.{drivesAt}
+use Rattle.solve.specs.Search.{Searching, Changed}
 
 -- after a store at place i, what holds of it there and of the other places as they were holds of place j
 pub set-cases : (P : ℕ → ℤ → Type 0) (l : List ℤ) (i j : ℕ) (v : ℤ) → i < length l → P i v → ((j ≡ i → ⊥) → P j (reading l j)) → P j (reading (set l i v) j)
@@ -30,22 +34,37 @@ module _ {P : ℕ → ℤ → Type 0} {board : List ℕ} {before : List ℤ} whe
   changed-none long e = subst (λ (l : List ℤ). Changed P board before l (drivenOn board + 1)) (sym e) (record { long = long; same = λ j l. refl; free = λ j a b. absurd (omega arith) })
 
   module _ {after : List ℤ} {i : ℕ} (h : Changed P board before after i) where
-    pub changed-more : {u : ℤ} → drivenOn board < i → i < 16 → P i u → Changed P board before (set after i u) (i + 1)
-    changed-more {u} above place next =
+    pub changed-more : {u : ℤ} {next : List ℤ} → drivenOn board < i → i < 16 → P i u → next ≡ set after i u → Changed P board before next (i + 1)
+    changed-more {u} above place here e =
         let short : i < length after = omega (arith, h .long) in
-        record {
+        subst (λ (l : List ℤ). Changed P board before l (i + 1)) (sym e) (record {
           long = length-set after i u ∙ h .long;
           same = λ j l. set-cases (λ (k : ℕ) (w : ℤ). k ≤ drivenOn board → w ≡ reading before k) after i j u short (λ m. absurd (omega arith)) (λ n. h .same j) l;
-          free = λ j a b. set-cases P after i j u short next (λ n. h .free j a (omega (arith, n)));
-        }
+          free = λ j a b. set-cases P after i j u short here (λ n. h .free j a (omega (arith, n)));
+        })
 
     pub changed-all : nodesOn board < i → Changed P board before after (suc (nodesOn board))
     changed-all past = record { long = h .long; same = h .same; free = λ j a b. h .free j a (omega arith) }
 
-module _ {board : List ℕ} {stretches stored a : List ℤ} (s : Searching board stretches stored a) where
-  pub places-of : Places board a
-  places-of = record { long = s .long; few = s .evaluable .ready .laid .limits .few-nodes; driven-there = s .evaluable .ready .laid .limits .wired .driven-there; ranged = s .evaluable .ranged }
+-- ---- where a search stands
 
-  -- where a search goes on, it is given what it was given
-  pub searching-on : {b : List ℤ} → length b ≡ 16 → Ranged board b → Searching board stretches stored b
-  searching-on long ranged = record { evaluable = record { ready = s .evaluable .ready; kept = s .evaluable .kept; ranged = ranged }; long = long }
+module _ {board : List ℕ} {stretches stored a nets : List ℤ} (s : Searching board stretches stored a nets) where
+  -- a node has a place in the array
+  pub place-of : {i : ℕ} → i ≤ nodesOn board → i < 16
+  place-of there = omega (arith, s .evaluable .ready .laid .limits .few-nodes)
+
+  pub short-of : {i : ℕ} → i ≤ nodesOn board → i < length a
+  short-of there = omega (arith, place-of there, s .long)
+
+  -- one free node moved
+  pub searching-moved : {b after : List ℤ} {i : ℕ} {v : ℤ} → Free (networkOn board stretches) i → InRange v → Moved board stretches stored a i v b after → Searching board stretches stored b after
+  searching-moved {b} {after} {i} {v} free inside moved = record {
+    evaluable = record { ready = s .evaluable .ready; kept = s .evaluable .kept; ranged = rw (moved .placed) (ranged-set board a i v (short-of (free .1)) (s .evaluable .ranged) inside) };
+    long = rw (moved .placed) (length-set a i v ∙ s .long);
+    ground = rw (moved .placed) (getD-set-other a i 0 v (pos 0) (λ e. omega (arith, e, free .0)) ∙ s .ground);
+    netted = moved .netted;
+  }
+
+  -- it has some drives
+  pub searching-legal : Legal (networkOn board stretches) (drivesAt a) (reading a)
+  searching-legal = record { drives = record { ground = s .ground; driven = λ j l. sym (scale-one (drivesAt a j)) }; range = λ i f. s .evaluable .ranged i (f .1) }

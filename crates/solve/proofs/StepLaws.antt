@@ -1,12 +1,12 @@
 -- Step over a board: how far it goes fits, and what it says. Assumes nothing.
-use mathlib.Core.Path.{_≡_, sym, _∙_, subst}
+use mathlib.Core.Path.{_≡_, sym, subst}
 use mathlib.Core.List.{List}
 use mathlib.Core.Logic.{⊎-elim}
 use Prim.Native.Nat.{ℕ, suc, _+_, _*_, _^_, _≤_, _<_}
 use native.Mathlib.Nat.{le-refl, mul-le-mul, mul-le-mul-left, mul-suc}
 use native.Mathlib.Omega.{arith}
 use lib.IntN.{ℤ, pos, natAbs, _-ℤ_}
-use lib.ListN.{length, set, length-set}
+use lib.ListN.{length, set}
 use lib.Signed.{_≤ℤ_, _<ℤ_}
 use Rattle.units.specs.Integer.{roundedUp}
 use Rattle.units.specs.Voltage.{voltageLimit, InRange, bottom}
@@ -21,7 +21,7 @@ use Rattle.network.proofs.Lowering.{lowered-under, store-lowers}
 use Rattle.network.proofs.Settle.{stepOf, ceil-settling-list, ceil-none-list}
 use Rattle.circuit.specs.Board.{countOn, networkOn, steepestOn, Evaluable}
 use Rattle.solve.specs.Search.{Searching, netBound, Lowered, Nowhere}
-use Rattle.solve.proofs.PlaceLaws.{ranged-set}
+use Rattle.solve.proofs.PlaceLaws.{short-of}
 
 one-more : (n s : ℕ) → 0 < s → n + s ≤ s * suc n
 one-more n s p =
@@ -36,7 +36,7 @@ rounded-up-small n s p = ⊎-elim
     (λ (h : n < roundedUp n s). absurd (omega (arith, rounded-up-law n s p .1, mul-le-mul-left s h, one-more n s p)))
     (decideN (roundedUp n s) n)
 
-module _ {board : List ℕ} {stretches stored l : List ℤ} (search : Searching board stretches stored l) (i : ℕ) (free : Free (networkOn board stretches) i) where
+module _ {board : List ℕ} {stretches stored l nets : List ℤ} (search : Searching board stretches stored l nets) (i : ℕ) (free : Free (networkOn board stretches) i) where
   abbrev N : Network
   N = networkOn board stretches
 
@@ -62,7 +62,7 @@ module _ {board : List ℕ} {stretches stored l : List ℤ} (search : Searching 
     t = stepOf N (reading stored) (reading l) i
 
     short : i < length l
-    short = omega (arith, search .long, given .ready .laid .limits .few-nodes, free .1)
+    short = short-of search (free .1)
 
     there : v ≡ reading l i -ℤ pos (stepOf N (reading stored) (reading l) i)
     there = rw (← given .ready .steepest-sums i free) is
@@ -88,8 +88,6 @@ module _ {board : List ℕ} {stretches stored l : List ℤ} (search : Searching 
       pub step-lowered : Lowered board stretches stored l (set l i v)
       step-lowered = record {
         down = record {
-          long = length-set l i v ∙ search .long;
-          ranged = ranged-set board l i v short (given .ranged) inside;
           under = rw there under;
           settling = λ d z s. rw there (ceil-settling-list N (reading stored) d z l i (given .ready .laid .limits .wired) s short free (given .ready .laid .limits .leaks) high over);
         };

@@ -7,22 +7,22 @@ use Prim.Native.Nat.{ℕ, suc, _-_, _≤_, _<_}
 use native.Mathlib.Omega.{arith}
 use native.Mathlib.Nat.{le-refl}
 use lib.IntN.{ℤ, pos, _+ℤ_, _-ℤ_}
-use lib.ListN.{length, set, length-set}
+use lib.ListN.{length, set}
 use lib.Signed.{_≤ℤ_, _<ℤ_}
 use Rattle.units.specs.Voltage.{voltageLimit, InRange, belowTop}
 use Rattle.units.proofs.Integers.{signs, add-law, sub-law, neg-law, pos-law, abs-law, decideN, ltZ-true, ltZ-false}
 use Rattle.units.proofs.Sizes.{abs-within}
-use Rattle.network.specs.Network.{Network, Free, reading, net}
+use Rattle.network.specs.Network.{Network, Wired, Free, reading, net}
 use Rattle.network.specs.Sample.{Legal, Low, Answer}
-use Rattle.network.specs.Search.{raised, height}
+use Rattle.network.specs.Search.{raised, Visit, height}
 use Rattle.network.proofs.Measures.{height-falls-list, depth-falls}
 use Rattle.network.proofs.Nodes.{by-node}
 use Rattle.network.proofs.Certify.{raised-free, raised-top, raised-fixed, visit-start, visit-more-list, visit-law, visit-over, stuck, certify}
-use Rattle.circuit.specs.Board.{nodesOn, drivenOn, networkOn, Evaluable}
-use Rattle.solve.specs.Search.{LowAt}
+use Rattle.circuit.specs.Board.{nodesOn, drivenOn, networkOn, Ranged, Evaluable}
+use Rattle.solve.specs.Search.{Searching, LowAt}
 use Rattle.solve.specs.Climb.{Risen}
 use Rattle.solve.specs.Visit.{oneUp, Raised, Visiting, Waiting, Stuck}
-use Rattle.solve.proofs.PlaceLaws.{set-cases, ranged-set}
+use Rattle.solve.proofs.PlaceLaws.{set-cases, short-of}
 
 -- ---- where it starts
 
@@ -53,24 +53,27 @@ module _ {board : List ℕ} {volts s : List ℤ} where
       (λ (a : (oneUp (reading volts j) ≡ reading volts j) × (pos voltageLimit ≤ℤ reading volts j)). a .0 ∙ sym (raised-top N (reading volts) j (a .1)))
       (one-up-law (reading volts j)))
 
-  pub visiting-start : {stretches stored : List ℤ} → Evaluable board stretches stored volts → Raised board volts s → Visiting board stretches stored volts s
-  visiting-start {stretches} {stored} given h = record {
-    evaluable = record {
-      ready = given .ready;
-      kept = given .kept;
-      ranged = by-node (networkOn board stretches) (λ (j : ℕ). InRange (reading s j))
-          (λ j f. rw (h .same j f) (given .ranged j (omega (arith, given .ready .laid .limits .wired .driven-there))))
-          (λ j f. rw (h .free j (f .0) (omega (arith, f .1))) (one-up-range (reading volts j) (given .ranged j (f .1))));
-    };
-    long = h .long;
-    ranged = given .ranged;
+  pub raised-evaluable : {stretches stored : List ℤ} → Evaluable board stretches stored volts → Raised board volts s → Evaluable board stretches stored s
+  raised-evaluable {stretches} given h = record {
+    ready = given .ready;
+    kept = given .kept;
+    ranged = by-node (networkOn board stretches) (λ (j : ℕ). InRange (reading s j))
+        (λ j f. rw (h .same j f) (given .ranged j (omega (arith, given .ready .laid .limits .wired .driven-there))))
+        (λ j f. rw (h .free j (f .0) (omega (arith, f .1))) (one-up-range (reading volts j) (given .ranged j (f .1))));
+  }
+
+  pub visiting-start : {stretches stored w : List ℤ} → Ranged board volts → Searching board stretches stored s w → Raised board volts s → Visiting board stretches stored volts s w
+  visiting-start {stretches} {stored} ranged searching h = record {
+    searching = searching;
+    ranged = ranged;
     visit = visit-start (networkOn board stretches) (reading stored) (reading volts) (reading s) (raised-is stretches h);
   }
 
 -- ---- a lap that has come down to node i
 
 pub record LapTo (board : List ℕ) (stretches stored volts before after : List ℤ) (went wait : Bool) (i : ℕ) : Type 0 where
-  pub visiting : Visiting board stretches stored volts after
+  pub ranged : Ranged board volts
+  pub visit : Visit (networkOn board stretches) (reading stored) (reading volts) (reading after)
   pub under : height (networkOn board stretches) (reading after) ≤ height (networkOn board stretches) (reading before)
   pub still : went ≡ false → (j : ℕ) → Free (networkOn board stretches) j → i < j → reading volts j <ℤ reading after j → LowAt board stretches stored after j
   pub falls : went ≡ true → height (networkOn board stretches) (reading after) < height (networkOn board stretches) (reading before)
@@ -78,9 +81,10 @@ pub record LapTo (board : List ℕ) (stretches stored volts before after : List 
   pub waiting : wait ≡ true → (j : ℕ) × Free (networkOn board stretches) j × (i < j) × (reading volts j <ℤ reading after j)
 
 module _ {board : List ℕ} {stretches stored volts before : List ℤ} where
-  pub lap-none : Visiting board stretches stored volts before → LapTo board stretches stored volts before before false false (nodesOn board)
+  pub lap-none : {w : List ℤ} → Visiting board stretches stored volts before w → LapTo board stretches stored volts before before false false (nodesOn board)
   lap-none v = record {
-    visiting = v;
+    ranged = v .ranged;
+    visit = v .visit;
     under = le-refl _;
     still = λ e j f l. absurd (omega (arith, f .1));
     falls = λ e. absurd (false≢true e);
@@ -88,7 +92,7 @@ module _ {board : List ℕ} {stretches stored volts before : List ℤ} where
     waiting = λ e. absurd (false≢true e);
   }
 
-  module _ {after : List ℤ} {went wait : Bool} {i : ℕ} (h : LapTo board stretches stored volts before after went wait i) where
+  module _ {after w : List ℤ} (given : Searching board stretches stored after w) {went wait : Bool} {i : ℕ} (h : LapTo board stretches stored volts before after went wait i) where
     abbrev N : Network
     N = networkOn board stretches
 
@@ -99,11 +103,12 @@ module _ {board : List ℕ} {stretches stored volts before : List ℤ} where
 
       -- a node stands where it did, or one above
       over : reading volts i ≤ℤ reading after i
-      over = visit-over N (reading stored) (reading volts) (reading after) (h .visiting .visit) i there
+      over = visit-over N (reading stored) (reading volts) (reading after) (h .visit) i there
 
       pub lap-back : {next : List ℤ} → (next ≡ after) × (reading after i ≤ℤ reading volts i) → LapTo board stretches stored volts before next went wait (i - 1)
       lap-back k = subst (λ (l : List ℤ). LapTo board stretches stored volts before l went wait (i - 1)) (sym (k .0)) (record {
-        visiting = h .visiting;
+        ranged = h .ranged;
+        visit = h .visit;
         under = h .under;
         still = λ e j f l. ⊎-elim (λ (q : j ≡ i). rw q (λ w. absurd (omega (signs, k .1)))) (λ (q : i < j). h .still e j f q) (since j l);
         falls = h .falls;
@@ -113,7 +118,8 @@ module _ {board : List ℕ} {stretches stored volts before : List ℤ} where
 
       pub lap-waits : {next : List ℤ} → (next ≡ after) × (reading volts i <ℤ reading after i) × LowAt board stretches stored after i → LapTo board stretches stored volts before next went true (i - 1)
       lap-waits k = subst (λ (l : List ℤ). LapTo board stretches stored volts before l went true (i - 1)) (sym (k .0)) (record {
-        visiting = h .visiting;
+        ranged = h .ranged;
+        visit = h .visit;
         under = h .under;
         still = λ e j f l. ⊎-elim (λ (q : j ≡ i). rw q (λ w. k .2)) (λ (q : i < j). h .still e j f q) (since j l);
         falls = h .falls;
@@ -123,30 +129,22 @@ module _ {board : List ℕ} {stretches stored volts before : List ℤ} where
 
       module _ (waits : reading volts i <ℤ reading after i) (high : pos 0 <ℤ net 1 (networkOn board stretches) (reading stored) (reading after) i) where
         short : i < length after
-        short = omega (arith, h .visiting .long, h .visiting .evaluable .ready .laid .limits .few-nodes)
+        short = short-of given there
 
         -- a waiting node stands one above
         one : reading after i -ℤ pos 1 ≡ reading volts i
         one = ⊎-elim
             (λ (e : reading after i ≡ reading volts i). absurd (omega signs))
             (λ (e : (reading after i ≡ reading volts i +ℤ pos 1) × Free N i × (reading volts i <ℤ pos voltageLimit)). omega (signs, e .0, add-law (reading volts i) (pos 1), sub-law (reading after i) (pos 1)))
-            (visit-law N (reading stored) (reading volts) (reading after) (h .visiting .visit) i there)
+            (visit-law N (reading stored) (reading volts) (reading after) (h .visit) i there)
 
         lower : height (networkOn board stretches) (reading (set after i (reading volts i))) < height (networkOn board stretches) (reading after)
-        lower = rw one at (height-falls-list N after i 1 short there (omega arith) (omega (signs, waits, h .visiting .ranged i there, abs-law (reading volts i), neg-law (pos voltageLimit), pos-law voltageLimit)))
+        lower = rw one at (height-falls-list N after i 1 short there (omega arith) (omega (signs, waits, h .ranged i there, abs-law (reading volts i), neg-law (pos voltageLimit), pos-law voltageLimit)))
 
         gone : LapTo board stretches stored volts before (set after i (reading volts i)) true wait (i - 1)
         gone = record {
-          visiting = record {
-            evaluable = record {
-              ready = h .visiting .evaluable .ready;
-              kept = h .visiting .evaluable .kept;
-              ranged = ranged-set board after i (reading volts i) short (h .visiting .evaluable .ranged) (h .visiting .ranged i there);
-            };
-            long = length-set after i (reading volts i) ∙ h .visiting .long;
-            ranged = h .visiting .ranged;
-            visit = rw one at (visit-more-list N (reading stored) (reading volts) after i short (h .visiting .visit) (above, there) waits high);
-          };
+          ranged = h .ranged;
+          visit = rw one at (visit-more-list N (reading stored) (reading volts) after i short (h .visit) (above, there) waits high);
           under = omega (arith, lower, h .under);
           still = λ e. absurd (false≢true (sym e));
           falls = λ n. omega (arith, lower, h .under);
@@ -170,7 +168,7 @@ module _ {board : List ℕ} {stretches stored volts before : List ℤ} where
           (λ j f. ⊎-elim
           (λ (q : reading after j ≡ reading volts j). q)
           (λ (q : (reading after j ≡ reading volts j +ℤ pos 1) × Free N j × (reading volts j <ℤ pos voltageLimit)). absurd (omega (arith, q .1)))
-          (visit-law N (reading stored) (reading volts) (reading after) (h .visiting .visit) j (omega (arith, h .visiting .evaluable .ready .laid .limits .wired .driven-there))))
+          (visit-law N (reading stored) (reading volts) (reading after) (h .visit) j (omega (arith, given .evaluable .ready .laid .limits .wired .driven-there))))
           (λ j f. h .back e j f (omega (arith, f .0)))
 
       pub lap-sticks : went ≡ false → wait ≡ true → Waiting board stretches volts after × Stuck board stretches stored volts after
@@ -178,19 +176,18 @@ module _ {board : List ℕ} {stretches stored volts before : List ℤ} where
 
 -- ---- the end of the visit
 
-module _ {board : List ℕ} {stretches stored volts s : List ℤ} (v : Visiting board stretches stored volts s) where
+module _ {board : List ℕ} {stretches stored volts s w : List ℤ} (v : Visiting board stretches stored volts s w) where
+  abbrev wired : Wired (networkOn board stretches)
+  wired = v .searching .evaluable .ready .laid .limits .wired
+
   pub judged-highest : ((j : ℕ) → j ≤ nodesOn board → reading s j ≡ reading volts j) → (d : ℕ → ℤ) → Legal (networkOn board stretches) d (reading volts) → Low (networkOn board stretches) (reading stored) (reading volts) → Answer (networkOn board stretches) (reading stored) d (reading volts)
-  judged-highest back d legal low = certify (networkOn board stretches) (reading stored) d (reading volts) (v .evaluable .ready .laid .limits .wired) legal low (record { place = reading s; visit = v .visit; back = back })
+  judged-highest back d legal low = certify (networkOn board stretches) (reading stored) d (reading volts) wired legal low (record { place = reading s; visit = v .visit; back = back })
 
   pub judged-higher : Waiting board stretches volts s → Stuck board stretches stored volts s → Risen board stretches stored volts s
   judged-higher w sticks =
       let over = visit-over (networkOn board stretches) (reading stored) (reading volts) (reading s) (v .visit) in
       record {
-        up = record {
-          long = v .long;
-          ranged = v .evaluable .ranged;
-          over = over;
-          low = λ d legal low. stuck (networkOn board stretches) (reading stored) d (reading volts) (v .evaluable .ready .laid .limits .wired) legal low (reading s) (v .visit) sticks;
-        };
-        falls = depth-falls (networkOn board stretches) (reading s) (reading volts) (w .node) (w .free .1) over (w .waits) (omega (signs, v .evaluable .ranged (w .node) (w .free .1), abs-law (reading s (w .node)), pos-law voltageLimit));
+        over = over;
+        falls = depth-falls (networkOn board stretches) (reading s) (reading volts) (w .node) (w .free .1) over (w .waits) (omega (signs, v .searching .evaluable .ranged (w .node) (w .free .1), abs-law (reading s (w .node)), pos-law voltageLimit));
+        low = λ d legal low. stuck (networkOn board stretches) (reading stored) d (reading volts) wired legal low (reading s) (v .visit) sticks;
       }

@@ -6,26 +6,22 @@ use lib.IntN.{ℤ, pos}
 use lib.ListN.{length}
 use lib.Signed.{_≤ℤ_}
 use Rattle.units.specs.Voltage.{voltageLimit}
-use Rattle.network.specs.Network.{reading, net, nodeLimit, leakLimit, branchLimit, currentBound}
+use Rattle.network.specs.Network.{reading, net, leakLimit, branchLimit, currentBound}
 use Rattle.network.specs.Sample.{Low, Under}
 use Rattle.network.specs.Search.{Settling, NoneUnder, height}
-use Rattle.circuit.specs.Board.{nodesOn, drivenOn, networkOn, Ranged, Evaluable}
+use Rattle.circuit.specs.Board.{drivenOn, networkOn, Evaluable}
+use Rattle.circuit.specs.Nets.{Netted}
 use Rattle.solve.specs.declared.settle.Fall.{Fall}
 use Rattle.solve.specs.declared.settle.Fall.the-variants.{Still, Lower, Out}
 use Rattle.solve.specs.declared.settle.Rest.{Rest}
 use Rattle.solve.specs.declared.settle.Rest.the-variants.{Found, Nothing}
 
--- what the functions of a search are given: a board that is ready, stored currents within their limit, voltages in range
-pub record Searching (board : List ℕ) (stretches stored volts : List ℤ) : Type 0 where
+-- where a search stands: a board that is ready, stored currents within their limit, voltages in range with ground at zero, and their net currents
+pub record Searching (board : List ℕ) (stretches stored volts nets : List ℤ) : Type 0 where
   pub evaluable : Evaluable board stretches stored volts
   pub long : length volts ≡ 16
-
--- voltages in range, with a place for each node
-pub record Places (board : List ℕ) (volts : List ℤ) : Type 0 where
-  pub long : length volts ≡ 16
-  pub few : nodesOn board ≤ nodeLimit
-  pub driven-there : drivenOn board ≤ nodesOn board
-  pub ranged : Ranged board volts
+  pub ground : reading volts 0 ≡ pos 0
+  pub netted : Netted board stretches stored volts nets
 
 -- the places of the free nodes before node i are as P says, and those of the fixed nodes as they were
 pub record Changed (P : ℕ → ℤ → Type 0) (board : List ℕ) (before after : List ℤ) (i : ℕ) : Type 0 where
@@ -45,8 +41,6 @@ LowAt board stretches stored volts i = net 1 (networkOn board stretches) (readin
 
 -- a search that has come to `before`, wherever it began, may go on at `after`
 pub record Down (board : List ℕ) (stretches stored before after : List ℤ) : Type 0 where
-  pub long : length after ≡ 16
-  pub ranged : Ranged board after
   pub under : Under (networkOn board stretches) (reading after) (reading before)
   pub settling : (d z : ℕ → ℤ) → Settling (networkOn board stretches) (reading stored) d z (reading before) → Settling (networkOn board stretches) (reading stored) d z (reading after)
 

@@ -4,14 +4,14 @@ use mathlib.Core.Bool.{cond}
 use mathlib.Core.List.{List}
 use Prim.Native.Nat.{ℕ, suc, _≤_, _<_}
 use lib.IntN.{ℤ, pos, _+ℤ_}
-use lib.ListN.{length, set}
+use lib.ListN.{set}
 use lib.Signed.{_≤ℤ_, _<ℤ_}
 use Rattle.units.specs.Voltage.{belowTop}
 use Rattle.network.specs.Network.{Free, reading, net}
 use Rattle.network.specs.Sample.{Legal, Low, Answer}
 use Rattle.network.specs.Search.{Visit, height}
-use Rattle.circuit.specs.Board.{nodesOn, networkOn, Ranged, Evaluable}
-use Rattle.solve.specs.Search.{Changed, LowAt}
+use Rattle.circuit.specs.Board.{nodesOn, networkOn, Ranged}
+use Rattle.solve.specs.Search.{Searching, Changed, LowAt}
 use Rattle.solve.specs.Climb.{Risen}
 use Rattle.solve.specs.declared.certify.Stance.{Stance}
 use Rattle.solve.specs.declared.certify.Stance.the-variants.{Back, Waits, Goes}
@@ -28,10 +28,9 @@ oneUp v = cond (belowTop v) (v +ℤ pos 1) v
 abbrev pub Raised : (board : List ℕ) (volts s : List ℤ) → Type 0
 Raised board volts s = Changed (λ (j : ℕ) (u : ℤ). u ≡ oneUp (reading volts j)) board volts s (suc (nodesOn board))
 
--- a visit for `volts` has come to s
-pub record Visiting (board : List ℕ) (stretches stored volts s : List ℤ) : Type 0 where
-  pub evaluable : Evaluable board stretches stored s
-  pub long : length s ≡ 16
+-- a visit for `volts` has come to s, where the net currents are w
+pub record Visiting (board : List ℕ) (stretches stored volts s w : List ℤ) : Type 0 where
+  pub searching : Searching board stretches stored s w
   pub ranged : Ranged board volts
   pub visit : Visit (networkOn board stretches) (reading stored) (reading volts) (reading s)
 

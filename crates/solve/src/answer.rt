@@ -4,16 +4,17 @@
 use crate::climb;
 use crate::settle;
 use circuit::board;
+use circuit::nets;
 use circuit::node;
 use circuit::places;
 use units::signed;
 use units::voltage::Voltage;
 ghost use mathlib.Core.Path.{_≡_};
 ghost use mathlib.Core.Bool.{true};
-ghost use Prim.Native.Nat.{_≤_, _<_};
-ghost use Rattle.network.specs.Network.{nodeLimit};
+ghost use Prim.Native.Nat.{_≤_};
+ghost use lib.IntN.{pos};
+ghost use Rattle.network.specs.Network.{nodeLimit, reading};
 ghost use Rattle.circuit.specs.Board.{nodesOn, drivenOn, Evaluable};
-ghost use Rattle.solve.specs.Search.{Searching};
 ghost use Rattle.solve.specs.Answer.{SeatedAt, Seated, Start, Ended, Solvable, Solved};
 
 // Where a free node begins: at the top, or where it is, brought into range.
@@ -74,7 +75,8 @@ fn from_top(
     ensures { λ r. ⌜ Ended (now (board .entry)) (now (stretches .entry)) (now (stored .entry)) (now (volts .entry)) (now (volts .exit)) r ⌝ }
 {
     seat(board, true, volts);
-    settle::settle(board, stretches, stored, volts)
+    let mut nets = nets::taken(board, stretches, stored, volts);
+    settle::settle(board, stretches, stored, volts, &mut nets)
 }
 
 // From voltages in range: settled, certified, climbed. Where there is nothing below them, that decides
@@ -85,13 +87,14 @@ fn from_proposal(
     stored: &[i64; 32],
     volts: &mut [i64; 16],
 ) -> settle::Rest
-    requires { ⌜ Searching (now board) (now stretches) (now stored) (now volts) ⌝ }
+    requires { ⌜ Evaluable (now board) (now stretches) (now stored) (now volts) × (reading (now volts) 0 ≡ pos 0) ⌝ }
     ensures { λ r. ⌜ Ended (now (board .entry)) (now (stretches .entry)) (now (stored .entry)) (now (volts .entry)) (now (volts .exit)) r ⌝ }
 {
     let start = places::copied(volts);
-    match settle::settle(board, stretches, stored, volts) {
+    let mut nets = nets::taken(board, stretches, stored, volts);
+    match settle::settle(board, stretches, stored, volts, &mut nets) {
         settle::Rest::Found => {
-            climb::climb(board, stretches, stored, volts);
+            climb::climb(board, stretches, stored, volts, &mut nets);
             settle::Rest::Found
         }
         settle::Rest::Nothing => {

@@ -1,16 +1,17 @@
 // Certify: whether a low assignment is the greatest, by a visit of its nodes. Every free node below
 // the top is raised by one and waits; a waiting node whose net current is above zero goes back. If
 // all get back, nothing higher is low; if the visit sticks, it has come to something that is.
-use crate::low;
+use crate::put;
 use circuit::board;
+use circuit::shift;
 use units::signed;
 use units::voltage::Voltage;
 ghost use mathlib.Core.Path.{_≡_};
 ghost use Prim.Native.Nat.{_<_};
 ghost use Rattle.units.specs.Voltage.{InRange};
 ghost use Rattle.network.specs.Network.{Free};
-ghost use Rattle.circuit.specs.Board.{networkOn, Evaluable};
-ghost use Rattle.solve.specs.Search.{Places};
+ghost use Rattle.circuit.specs.Board.{networkOn, Ranged};
+ghost use Rattle.solve.specs.Search.{Searching};
 ghost use Rattle.solve.specs.Visit.{oneUp, Raised, Visiting, VisitedAt, VisitedAll, Judged};
 
 // What came of one node: it was back, it waits still, or it goes back.
@@ -45,10 +46,18 @@ fn one_up(v: i64) -> i64
     v
 }
 
-// Every free node raised so.
-fn lift(board: &[u64; 293], volts: &[i64; 16], s: &mut [i64; 16])
-    requires { ⌜ Places (now board) (now volts) × (now s ≡ now volts) ⌝ }
-    ensures { λ _. ⌜ Raised (now (board .entry)) (now (volts .entry)) (now (s .exit)) ⌝ }
+// Every free node raised so. They are raised together, so that an element between two of them is not
+// evaluated.
+fn lift(
+    board: &[u64; 293],
+    stretches: &[i64; 408],
+    stored: &[i64; 32],
+    volts: &[i64; 16],
+    s: &mut [i64; 16],
+    w: &mut [i64; 16],
+)
+    requires { ⌜ Searching (now board) (now stretches) (now stored) (now s) (now w) × (now s ≡ now volts) ⌝ }
+    ensures { λ _. ⌜ Searching (now (board .entry)) (now (stretches .entry)) (now (stored .entry)) (now (s .exit)) (now (w .exit)) × Raised (now (board .entry)) (now (volts .entry)) (now (s .exit)) ⌝ }
 {
     let nodes = board::nodes(board);
     let mut i = board::driven(board) + 1;
@@ -56,6 +65,7 @@ fn lift(board: &[u64; 293], volts: &[i64; 16], s: &mut [i64; 16])
         s[i] = one_up(volts[i]);
         i += 1;
     }
+    shift::shift(board, stretches, stored, volts, s, w);
 }
 
 // One node: if it is above where it was and its net current is above zero, it goes back.
@@ -64,20 +74,21 @@ fn visit_at(
     stretches: &[i64; 408],
     stored: &[i64; 32],
     volts: &[i64; 16],
-    s: &mut [i64; 16],
     i: usize,
+    s: &mut [i64; 16],
+    w: &mut [i64; 16],
 ) -> Stance
-    requires { ⌜ Evaluable (now board) (now stretches) (now stored) (now s) × Free (networkOn (now board) (now stretches)) i ⌝ }
-    ensures { λ r. ⌜ VisitedAt (now (board .entry)) (now (stretches .entry)) (now (stored .entry)) (now (volts .entry)) (now (s .entry)) (now (s .exit)) i r ⌝ }
+    requires { ⌜ Searching (now board) (now stretches) (now stored) (now s) (now w) × Free (networkOn (now board) (now stretches)) i × Ranged (now board) (now volts) ⌝ }
+    ensures { λ r. ⌜ Searching (now (board .entry)) (now (stretches .entry)) (now (stored .entry)) (now (s .exit)) (now (w .exit)) × VisitedAt (now (board .entry)) (now (stretches .entry)) (now (stored .entry)) (now (volts .entry)) (now (s .entry)) (now (s .exit)) i r ⌝ }
 {
     let v = volts[i];
     if signed::at_most(s[i], v) {
         return Stance::Back;
     }
-    if low::is_low(board, stretches, stored, s, i) {
+    if signed::at_most(w[i], 0) {
         return Stance::Waits;
     }
-    s[i] = v;
+    put::put(board, stretches, stored, i, v, s, w);
     Stance::Goes
 }
 
@@ -88,16 +99,17 @@ fn visit_all(
     stored: &[i64; 32],
     volts: &[i64; 16],
     s: &mut [i64; 16],
+    w: &mut [i64; 16],
 ) -> Lap
-    requires { ⌜ Visiting (now board) (now stretches) (now stored) (now volts) (now s) ⌝ }
-    ensures { λ r. ⌜ Visiting (now (board .entry)) (now (stretches .entry)) (now (stored .entry)) (now (volts .entry)) (now (s .exit)) × VisitedAll (now (board .entry)) (now (stretches .entry)) (now (stored .entry)) (now (volts .entry)) (now (s .entry)) (now (s .exit)) r ⌝ }
+    requires { ⌜ Visiting (now board) (now stretches) (now stored) (now volts) (now s) (now w) ⌝ }
+    ensures { λ r. ⌜ Visiting (now (board .entry)) (now (stretches .entry)) (now (stored .entry)) (now (volts .entry)) (now (s .exit)) (now (w .exit)) × VisitedAll (now (board .entry)) (now (stretches .entry)) (now (stored .entry)) (now (volts .entry)) (now (s .entry)) (now (s .exit)) r ⌝ }
 {
     let driven = board::driven(board);
     let mut went = false;
     let mut wait = false;
     let mut i = board::nodes(board);
     while driven < i {
-        match visit_at(board, stretches, stored, volts, s, i) {
+        match visit_at(board, stretches, stored, volts, i, s, w) {
             Stance::Back => {
                 i -= 1;
             }
@@ -120,20 +132,22 @@ fn visit_all(
     Lap::Through
 }
 
-// The whole visit for `volts`; s begins as a copy of them, and is the higher one if there is one.
+// The whole visit for `volts`; s and w begin as copies of them and of their net currents, and are the
+// higher one and its net currents if there is one.
 pub fn certify(
     board: &[u64; 293],
     stretches: &[i64; 408],
     stored: &[i64; 32],
     volts: &[i64; 16],
     s: &mut [i64; 16],
+    w: &mut [i64; 16],
 ) -> Verdict
-    requires { ⌜ Evaluable (now board) (now stretches) (now stored) (now volts) × Places (now board) (now volts) × (now s ≡ now volts) ⌝ }
-    ensures { λ r. ⌜ Judged (now (board .entry)) (now (stretches .entry)) (now (stored .entry)) (now (volts .entry)) (now (s .exit)) r ⌝ }
+    requires { ⌜ Searching (now board) (now stretches) (now stored) (now s) (now w) × (now s ≡ now volts) ⌝ }
+    ensures { λ r. ⌜ Searching (now (board .entry)) (now (stretches .entry)) (now (stored .entry)) (now (s .exit)) (now (w .exit)) × Judged (now (board .entry)) (now (stretches .entry)) (now (stored .entry)) (now (volts .entry)) (now (s .exit)) r ⌝ }
 {
-    lift(board, volts, s);
+    lift(board, stretches, stored, volts, s, w);
     loop {
-        match visit_all(board, stretches, stored, volts, s) {
+        match visit_all(board, stretches, stored, volts, s, w) {
             Lap::Through => {
                 return Verdict::Highest;
             }

@@ -1,6 +1,6 @@
-// Leap: what moved together moves on together, down while a search settles and up while it climbs. The
-// net currents at the far end are what proves a leap.
-use crate::low;
+// Leap: what sank together sinks on together. It is tried in copies, and the net currents at the far end
+// are what proves it.
+use crate::put;
 use circuit::board;
 use circuit::places;
 use units::signed;
@@ -8,12 +8,13 @@ use units::voltage::Voltage;
 ghost use mathlib.Core.Path.{_≡_};
 ghost use mathlib.Core.Bool.{true};
 ghost use Prim.Native.Nat.{_^_, _≤_};
-ghost use lib.IntN.{ℤ, pos, _-ℤ_, _*ℤ_};
-ghost use Rattle.units.specs.Voltage.{InRange};
-ghost use Rattle.network.specs.Network.{Free};
-ghost use Rattle.circuit.specs.Board.{networkOn, Evaluable, Ranged};
-ghost use Rattle.solve.specs.Search.{Searching, Places};
-ghost use Rattle.solve.specs.Leap.{Reached, Led, Sinkable, LandedAt, Lands, Leapt};
+ghost use lib.IntN.{pos, _-ℤ_, _*ℤ_};
+ghost use lib.Signed.{_<ℤ_};
+ghost use Rattle.units.specs.Voltage.{InRange, bottom};
+ghost use Rattle.network.specs.Network.{Free, reading};
+ghost use Rattle.circuit.specs.Board.{networkOn, Ranged};
+ghost use Rattle.solve.specs.Search.{Searching, Down};
+ghost use Rattle.solve.specs.Leap.{Reached, Led, Sinkable, LandedAt, Lands};
 
 // m times as far again as from b to v.
 fn along(b: i64, v: i64, m: u64) -> i64
@@ -23,14 +24,14 @@ fn along(b: i64, v: i64, m: u64) -> i64
     signed::minus(v, signed::times(signed::whole(m), signed::minus(b, v)))
 }
 
-// Where a leap takes a node that came from b to v: there, if it stays in range and above the bottom.
+// Where a leap takes a node that came from b to v: there, if that is lower and above the bottom.
 fn reached(b: i64, v: i64, m: u64) -> i64
     requires { ⌜ InRange b × InRange v × (m ≤ 2 ^ 26) ⌝ }
-    ensures { λ r. ⌜ Reached b v r ⌝ }
+    ensures { λ r. ⌜ Reached v r ⌝ }
 {
     let u = along(b, v, m);
     let there = Voltage { microvolts: u };
-    if there.in_range() {
+    if signed::at_most(u, v) {
         if there.above_bottom() {
             return u;
         }
@@ -39,43 +40,51 @@ fn reached(b: i64, v: i64, m: u64) -> i64
 }
 
 // All free nodes so.
-fn lead(board: &[u64; 293], from: &[i64; 16], volts: &[i64; 16], m: u64, far: &mut [i64; 16])
-    requires { ⌜ Places (now board) (now volts) × Ranged (now board) (now from) × (m ≤ 2 ^ 26) × (now far ≡ now volts) ⌝ }
-    ensures { λ _. ⌜ Led (now (board .entry)) (now (from .entry)) (now (volts .entry)) (now (far .exit)) ⌝ }
+fn lead(
+    board: &[u64; 293],
+    stretches: &[i64; 408],
+    stored: &[i64; 32],
+    from: &[i64; 16],
+    volts: &[i64; 16],
+    m: u64,
+    far: &mut [i64; 16],
+    nets: &mut [i64; 16],
+)
+    requires { ⌜ Searching (now board) (now stretches) (now stored) (now far) (now nets) × Ranged (now board) (now from) × (m ≤ 2 ^ 26) × (now far ≡ now volts) ⌝ }
+    ensures { λ _. ⌜ Searching (now (board .entry)) (now (stretches .entry)) (now (stored .entry)) (now (far .exit)) (now (nets .exit)) × Led (now (board .entry)) (now (volts .entry)) (now (far .exit)) ⌝ }
 {
     let nodes = board::nodes(board);
     let mut i = board::driven(board) + 1;
     while i <= nodes {
-        far[i] = reached(from[i], volts[i], m);
+        let u = reached(from[i], volts[i], m);
+        put::put(board, stretches, stored, i, u, far, nets);
         i += 1;
     }
 }
 
-// One node at the far end. If it leapt down, its net current has to be above zero there, and it is lowered
-// by one more; if it leapt up, its net current must not be. False if that isn't so.
+// One node at the far end. If it leapt, its net current has to be above zero there, and it is lowered by
+// one more. False if that isn't so.
 fn land_at(
     board: &[u64; 293],
     stretches: &[i64; 408],
     stored: &[i64; 32],
     volts: &[i64; 16],
-    far: &mut [i64; 16],
     i: usize,
+    far: &mut [i64; 16],
+    nets: &mut [i64; 16],
 ) -> bool
-    requires { ⌜ Evaluable (now board) (now stretches) (now stored) (now far) × Free (networkOn (now board) (now stretches)) i ⌝ }
-    ensures { λ r. ⌜ (r ≡ true → LandedAt (now (board .entry)) (now (stretches .entry)) (now (stored .entry)) (now (volts .entry)) (now (far .entry)) i (now (far .exit))) ⌝ }
+    requires { ⌜ Searching (now board) (now stretches) (now stored) (now far) (now nets) × Free (networkOn (now board) (now stretches)) i × (reading (now far) i <ℤ reading (now volts) i → bottom <ℤ reading (now far) i) ⌝ }
+    ensures { λ r. ⌜ Searching (now (board .entry)) (now (stretches .entry)) (now (stored .entry)) (now (far .exit)) (now (nets .exit)) × (r ≡ true → LandedAt (now (board .entry)) (now (stretches .entry)) (now (stored .entry)) (now (volts .entry)) (now (far .entry)) i (now (far .exit))) ⌝ }
 {
-    let v = volts[i];
     let u = far[i];
-    if signed::at_most(v, u) {
-        if signed::at_most(u, v) {
-            return true;
-        }
-        return low::is_low(board, stretches, stored, far, i);
+    if signed::at_most(volts[i], u) {
+        return true;
     }
-    if low::is_low(board, stretches, stored, far, i) {
+    if signed::at_most(nets[i], 0) {
         return false;
     }
-    far[i] = signed::minus(u, 1);
+    let down = signed::minus(u, 1);
+    put::put(board, stretches, stored, i, down, far, nets);
     true
 }
 
@@ -86,14 +95,15 @@ fn land(
     stored: &[i64; 32],
     volts: &[i64; 16],
     far: &mut [i64; 16],
+    nets: &mut [i64; 16],
 ) -> bool
-    requires { ⌜ Evaluable (now board) (now stretches) (now stored) (now far) × Sinkable (now board) (now volts) (now far) ⌝ }
-    ensures { λ r. ⌜ (r ≡ true → Lands (now (board .entry)) (now (stretches .entry)) (now (stored .entry)) (now (volts .entry)) (now (far .entry)) (now (far .exit))) ⌝ }
+    requires { ⌜ Searching (now board) (now stretches) (now stored) (now far) (now nets) × Sinkable (now board) (now volts) (now far) ⌝ }
+    ensures { λ r. ⌜ Searching (now (board .entry)) (now (stretches .entry)) (now (stored .entry)) (now (far .exit)) (now (nets .exit)) × (r ≡ true → Lands (now (board .entry)) (now (stretches .entry)) (now (stored .entry)) (now (volts .entry)) (now (far .entry)) (now (far .exit))) ⌝ }
 {
     let nodes = board::nodes(board);
     let mut i = board::driven(board) + 1;
     while i <= nodes {
-        if land_at(board, stretches, stored, volts, far, i) {
+        if land_at(board, stretches, stored, volts, i, far, nets) {
             i += 1;
         } else {
             return false;
@@ -111,14 +121,26 @@ fn leap(
     from: &[i64; 16],
     m: u64,
     volts: &mut [i64; 16],
+    nets: &mut [i64; 16],
 ) -> bool
-    requires { ⌜ Searching (now board) (now stretches) (now stored) (now volts) × Ranged (now board) (now from) × (m ≤ 2 ^ 26) ⌝ }
-    ensures { λ r. ⌜ Leapt (now (board .entry)) (now (stretches .entry)) (now (stored .entry)) (now (from .entry)) (now (volts .entry)) (now (volts .exit)) ⌝ }
+    requires { ⌜ Searching (now board) (now stretches) (now stored) (now volts) (now nets) × Ranged (now board) (now from) × (m ≤ 2 ^ 26) ⌝ }
+    ensures { λ _. ⌜ Searching (now (board .entry)) (now (stretches .entry)) (now (stored .entry)) (now (volts .exit)) (now (nets .exit)) × Down (now (board .entry)) (now (stretches .entry)) (now (stored .entry)) (now (volts .entry)) (now (volts .exit)) ⌝ }
 {
     let mut far = places::copied(volts);
-    lead(board, from, volts, m, &mut far);
-    if land(board, stretches, stored, volts, &mut far) {
+    let mut there = places::copied(nets);
+    lead(
+        board,
+        stretches,
+        stored,
+        from,
+        volts,
+        m,
+        &mut far,
+        &mut there,
+    );
+    if land(board, stretches, stored, volts, &mut far, &mut there) {
         *volts = far;
+        *nets = there;
         return true;
     }
     false
@@ -131,13 +153,14 @@ pub fn leaps(
     stored: &[i64; 32],
     from: &[i64; 16],
     volts: &mut [i64; 16],
+    nets: &mut [i64; 16],
 )
-    requires { ⌜ Searching (now board) (now stretches) (now stored) (now volts) × Ranged (now board) (now from) ⌝ }
-    ensures { λ _. ⌜ Leapt (now (board .entry)) (now (stretches .entry)) (now (stored .entry)) (now (from .entry)) (now (volts .entry)) (now (volts .exit)) ⌝ }
+    requires { ⌜ Searching (now board) (now stretches) (now stored) (now volts) (now nets) × Ranged (now board) (now from) ⌝ }
+    ensures { λ _. ⌜ Searching (now (board .entry)) (now (stretches .entry)) (now (stored .entry)) (now (volts .exit)) (now (nets .exit)) × Down (now (board .entry)) (now (stretches .entry)) (now (stored .entry)) (now (volts .entry)) (now (volts .exit)) ⌝ }
 {
     let mut m: u64 = 1;
     while m < 67108864 {
-        if leap(board, stretches, stored, from, m, volts) {
+        if leap(board, stretches, stored, from, m, volts, nets) {
             m = 2 * m;
         } else {
             return;

@@ -1,8 +1,9 @@
-// The exact search: the highest voltages of a sample, or that there are none.
+// The exact search: the highest voltages of a sample, or that there are none. It keeps the net current
+// of every node beside the voltages.
 mod answer;
 mod certify;
 mod climb;
 mod leap;
-mod low;
+mod put;
 pub mod sample;
 mod settle;

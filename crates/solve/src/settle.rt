@@ -1,10 +1,11 @@
 // Settle: from voltages in range down to the greatest low assignment at or below them, or that
 // there is none in range. A sweep lowers every free node whose net current is above zero; leaps
-// take the nodes that sank in it further. A search never passes a low assignment: that is all that
-// has to be kept, and voltages fall, so it ends.
+// take the nodes that sank in it further, from the third sweep on: before that a search that ends soon
+// would pay for them. A search never passes a low assignment: that is all that has to be kept, and
+// voltages fall, so it ends.
 use crate::leap;
+use crate::put;
 use circuit::board;
-use circuit::node;
 use circuit::places;
 use units::signed;
 use units::voltage::Voltage;
@@ -15,7 +16,7 @@ ghost use Rattle.units.specs.Integer.{roundedUp};
 ghost use Rattle.units.specs.Voltage.{InRange};
 ghost use Rattle.network.specs.Network.{Free, reading};
 ghost use Rattle.network.specs.Sample.{Low};
-ghost use Rattle.circuit.specs.Board.{networkOn, Evaluable};
+ghost use Rattle.circuit.specs.Board.{networkOn};
 ghost use Rattle.solve.specs.Search.{Searching, Fell, LowAt, netBound, Came};
 
 // What came of a step or a sweep: no net current above zero, voltages lower than before, or that
@@ -46,19 +47,20 @@ fn step(
     stretches: &[i64; 408],
     stored: &[i64; 32],
     volts: &mut [i64; 16],
+    nets: &mut [i64; 16],
     i: usize,
 ) -> Fall
-    requires { ⌜ Searching (now board) (now stretches) (now stored) (now volts) × Free (networkOn (now board) (now stretches)) i ⌝ }
-    ensures { λ r. ⌜ Fell (LowAt (now (board .entry)) (now (stretches .entry)) (now (stored .entry)) (now (volts .entry)) i) (now (board .entry)) (now (stretches .entry)) (now (stored .entry)) (now (volts .entry)) (now (volts .exit)) r ⌝ }
+    requires { ⌜ Searching (now board) (now stretches) (now stored) (now volts) (now nets) × Free (networkOn (now board) (now stretches)) i ⌝ }
+    ensures { λ r. ⌜ Searching (now (board .entry)) (now (stretches .entry)) (now (stored .entry)) (now (volts .exit)) (now (nets .exit)) × Fell (LowAt (now (board .entry)) (now (stretches .entry)) (now (stored .entry)) (now (volts .entry)) i) (now (board .entry)) (now (stretches .entry)) (now (stored .entry)) (now (volts .entry)) (now (volts .exit)) r ⌝ }
 {
-    let f = node::net_current(board, stretches, stored, volts, i);
+    let f = nets[i];
     if signed::at_most(f, 0) {
         return Fall::Still;
     }
     let v = lower_by(volts[i], f, board::steepest(board, i));
     let u = Voltage { microvolts: v };
     if u.in_range() {
-        volts[i] = v;
+        put::put(board, stretches, stored, i, v, volts, nets);
         return Fall::Lower;
     }
     Fall::Out
@@ -70,15 +72,16 @@ fn sweep(
     stretches: &[i64; 408],
     stored: &[i64; 32],
     volts: &mut [i64; 16],
+    nets: &mut [i64; 16],
 ) -> Fall
-    requires { ⌜ Searching (now board) (now stretches) (now stored) (now volts) ⌝ }
-    ensures { λ r. ⌜ Fell (Low (networkOn (now (board .entry)) (now (stretches .entry))) (reading (now (stored .entry))) (reading (now (volts .entry)))) (now (board .entry)) (now (stretches .entry)) (now (stored .entry)) (now (volts .entry)) (now (volts .exit)) r ⌝ }
+    requires { ⌜ Searching (now board) (now stretches) (now stored) (now volts) (now nets) ⌝ }
+    ensures { λ r. ⌜ Searching (now (board .entry)) (now (stretches .entry)) (now (stored .entry)) (now (volts .exit)) (now (nets .exit)) × Fell (Low (networkOn (now (board .entry)) (now (stretches .entry))) (reading (now (stored .entry))) (reading (now (volts .entry)))) (now (board .entry)) (now (stretches .entry)) (now (stored .entry)) (now (volts .entry)) (now (volts .exit)) r ⌝ }
 {
     let nodes = board::nodes(board);
     let mut moved = false;
     let mut i = board::driven(board) + 1;
     while i <= nodes {
-        match step(board, stretches, stored, volts, i) {
+        match step(board, stretches, stored, volts, nets, i) {
             Fall::Still => {
                 i += 1;
             }
@@ -97,19 +100,46 @@ fn sweep(
     Fall::Still
 }
 
+// A sweep, and after two of them also leaps of what sank in it.
+fn descend(
+    board: &[u64; 293],
+    stretches: &[i64; 408],
+    stored: &[i64; 32],
+    sweeps: u64,
+    volts: &mut [i64; 16],
+    nets: &mut [i64; 16],
+) -> Fall
+    requires { ⌜ Searching (now board) (now stretches) (now stored) (now volts) (now nets) ⌝ }
+    ensures { λ r. ⌜ Searching (now (board .entry)) (now (stretches .entry)) (now (stored .entry)) (now (volts .exit)) (now (nets .exit)) × Fell (Low (networkOn (now (board .entry)) (now (stretches .entry))) (reading (now (stored .entry))) (reading (now (volts .entry)))) (now (board .entry)) (now (stretches .entry)) (now (stored .entry)) (now (volts .entry)) (now (volts .exit)) r ⌝ }
+{
+    if sweeps < 2 {
+        return sweep(board, stretches, stored, volts, nets);
+    }
+    let before = places::copied(volts);
+    match sweep(board, stretches, stored, volts, nets) {
+        Fall::Still => Fall::Still,
+        Fall::Out => Fall::Out,
+        Fall::Lower => {
+            leap::leaps(board, stretches, stored, &before, volts, nets);
+            Fall::Lower
+        }
+    }
+}
+
 // Settle: sweeps and leaps until no net current is above zero.
 pub fn settle(
     board: &[u64; 293],
     stretches: &[i64; 408],
     stored: &[i64; 32],
     volts: &mut [i64; 16],
+    nets: &mut [i64; 16],
 ) -> Rest
-    requires { ⌜ Evaluable (now board) (now stretches) (now stored) (now volts) ⌝ }
-    ensures { λ r. ⌜ Came (now (board .entry)) (now (stretches .entry)) (now (stored .entry)) (now (volts .entry)) (now (volts .exit)) r ⌝ }
+    requires { ⌜ Searching (now board) (now stretches) (now stored) (now volts) (now nets) ⌝ }
+    ensures { λ r. ⌜ Searching (now (board .entry)) (now (stretches .entry)) (now (stored .entry)) (now (volts .exit)) (now (nets .exit)) × Came (now (board .entry)) (now (stretches .entry)) (now (stored .entry)) (now (volts .entry)) (now (volts .exit)) r ⌝ }
 {
-    let mut before = places::copied(volts);
+    let mut sweeps: u64 = 0;
     loop {
-        match sweep(board, stretches, stored, volts) {
+        match descend(board, stretches, stored, sweeps, volts, nets) {
             Fall::Still => {
                 return Rest::Found;
             }
@@ -117,8 +147,9 @@ pub fn settle(
                 return Rest::Nothing;
             }
             Fall::Lower => {
-                leap::leaps(board, stretches, stored, &before, volts);
-                before = places::copied(volts);
+                if sweeps < 2 {
+                    sweeps += 1;
+                }
             }
         }
     }

@@ -68,7 +68,7 @@ loop-again : tie.Need-loop-again Inv-loop μ-loop
 loop-again c =
     let l = c .before .before .before .loop in
     let e : toZ w64 (ofZ w64 (c .seat-at .result)) ≡ c .seat-at .result = search needs in
-    (omega arith, omega arith, changed-more (l .inv .2) (l .inv .0) (place (c .before .before)) (rw e (c .seat-at .ensures)))
+    (omega arith, omega arith, changed-more (l .inv .2) (l .inv .0) (place (c .before .before)) (rw e (c .seat-at .ensures)) refl)
 
 returns : tie.Need-returns Inv-loop μ-loop
 returns c =

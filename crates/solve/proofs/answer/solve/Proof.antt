@@ -1,4 +1,4 @@
-use Rattle.solve.proofs.AnswerLaws.{seated-searching, own-ended}
+use Rattle.solve.proofs.AnswerLaws.{ground, seated-begun, own-ended}
 use Rattle.solve.proofs.answer.solve.Statement.{statement}
 use Rattle.solve.proofs.answer.solve.Tie as tie
 
@@ -6,7 +6,7 @@ seat-requires : tie.Need-seat-requires
 seat-requires c κs = let r = c .before .pre .ready .laid .limits in (r .few-nodes, r .wired .driven-there)
 
 from-proposal-requires : tie.Need-from-proposal-requires
-from-proposal-requires c κs = seated-searching (c .before .seat .ensures) (c .before .before .before .pre)
+from-proposal-requires c κs = let k = c .before .seat .ensures in (seated-begun k (c .before .before .before .pre), ground k)
 
 returns : tie.Need-returns
 returns c =

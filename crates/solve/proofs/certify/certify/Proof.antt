@@ -8,33 +8,34 @@ use Rattle.solve.proofs.certify.certify.Statement.{statement}
 use Rattle.solve.proofs.certify.certify.Tie as tie
 
 abbrev Inv-loop : tie.InvT-loop
-Inv-loop board stretches stored volts s₀ s = Visiting board stretches stored volts s
+Inv-loop board stretches stored volts s₀ w₀ s w = Visiting board stretches stored volts s w
 
 abbrev μ-loop : tie.MeasureT-loop
-μ-loop board stretches stored volts s₀ s = height (networkOn board stretches) (reading s)
+μ-loop board stretches stored volts s₀ w₀ s w = height (networkOn board stretches) (reading s)
 
 lift-requires : tie.Need-lift-requires Inv-loop μ-loop
-lift-requires c κs = (c .before .pre .1, c .before .pre .2)
+lift-requires c κs = c .before .before .pre
 
 loop-holds : tie.Need-loop-holds Inv-loop μ-loop
-loop-holds c = visiting-start (c .before .before .pre .0) (c .lift .ensures)
+loop-holds c = let p = c .before .before .before .pre in visiting-start (rw (p .1) at (p .0 .evaluable .ranged)) (c .lift .ensures .0) (c .lift .ensures .1)
 
 visit-all-requires : tie.Need-visit-all-requires Inv-loop μ-loop
-visit-all-requires c κs = c .before .loop .inv
+visit-all-requires c κs = c .before .before .loop .inv
 
 enum-told : tie.Need-enum-told Inv-loop μ-loop
 enum-told c = search needs
 
 returns : tie.Need-returns Inv-loop μ-loop
-returns c = judged-highest (c .before .before .visit-all .ensures .0) (rw (c .enum-told .given .1) at (c .before .before .visit-all .ensures .1))
+returns c = let k = c .before .before .visit-all .ensures in (k .0 .searching, judged-highest (k .0) (rw (c .enum-told .given .1) at (k .1)))
 
 enum-told-2 : tie.Need-enum-told-2 Inv-loop μ-loop
 enum-told-2 c = search needs
 
 returns-2 : tie.Need-returns-2 Inv-loop μ-loop
 returns-2 c =
+    let v = c .before .before .visit-all .ensures .0 in
     let k = rw (c .enum-told2 .given .1) at (c .before .before .visit-all .ensures .1) in
-    judged-higher (c .before .before .visit-all .ensures .0) (k .0) (k .1)
+    (v .searching, judged-higher v (k .0) (k .1))
 
 enum-told-3 : tie.Need-enum-told-3 Inv-loop μ-loop
 enum-told-3 c = search needs

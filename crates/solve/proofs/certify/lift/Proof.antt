@@ -1,11 +1,12 @@
-use mathlib.Core.Path.{_≡_, _∙_}
+use mathlib.Core.Path.{_≡_, refl, _∙_}
 use Prim.Native.Nat.{ℕ, _+_, _-_, _≤_, _<_}
 use lib.IntN.{ℤ}
 use Rattle.network.specs.Network.{reading}
-use Rattle.circuit.specs.Board.{drivenOn}
+use Rattle.circuit.specs.Board.{nodesOn, drivenOn, Evaluable}
 use Rattle.solve.specs.Search.{Changed}
-use Rattle.solve.specs.Visit.{oneUp}
-use Rattle.solve.proofs.PlaceLaws.{changed-none, changed-more, changed-all}
+use Rattle.solve.specs.Visit.{oneUp, Raised}
+use Rattle.solve.proofs.PlaceLaws.{changed-none, changed-more, changed-all, place-of}
+use Rattle.solve.proofs.VisitLaws.{raised-evaluable}
 use native.Mathlib.Omega.{arith}
 use borrow.Author.Needs.{needs}
 use mir.Syntax.{w64}
@@ -14,10 +15,10 @@ use Rattle.solve.proofs.certify.lift.Statement.{statement}
 use Rattle.solve.proofs.certify.lift.Tie as tie
 
 abbrev Inv-loop : tie.InvT-loop
-Inv-loop board volts s₀ nodes i₀ s i = (drivenOn board < i) × (i ≤ nodes + 1) × Changed (λ (j : ℕ) (u : ℤ). u ≡ oneUp (reading volts j)) board volts s i
+Inv-loop board stretches stored volts s₀ w nodes i₀ s i = (drivenOn board < i) × (i ≤ nodes + 1) × Changed (λ (j : ℕ) (u : ℤ). u ≡ oneUp (reading volts j)) board volts s i
 
 abbrev μ-loop : tie.MeasureT-loop
-μ-loop board volts s₀ nodes i₀ s i = nodes + 1 - i
+μ-loop board stretches stored volts s₀ w nodes i₀ s i = nodes + 1 - i
 
 nodes-requires : tie.Need-nodes-requires Inv-loop μ-loop
 nodes-requires c κs = search needs
@@ -26,14 +27,23 @@ driven-requires : tie.Need-driven-requires Inv-loop μ-loop
 driven-requires c κs = search needs
 
 add-i : tie.Need-add-i Inv-loop μ-loop
-add-i c = record { fits = omega (arith, c .driven .ensures, c .before .before .pre .0 .few, c .before .before .pre .0 .driven-there) }
+add-i c = let r = c .before .before .pre .0 .evaluable .ready .laid .limits in record { fits = omega (arith, c .driven .ensures, r .few-nodes, r .wired .driven-there) }
 
 loop-holds : tie.Need-loop-holds Inv-loop μ-loop
-loop-holds c = (omega (arith, c .driven .ensures), omega (arith, c .driven .ensures, c .before .nodes .ensures, c .before .before .pre .0 .driven-there), rw (c .driven .ensures) (changed-none (c .before .before .pre .0 .long) (c .before .before .pre .1)))
+loop-holds c =
+    let p = c .before .before .pre in
+    (omega (arith, c .driven .ensures), omega (arith, c .driven .ensures, c .before .nodes .ensures, p .0 .evaluable .ready .laid .limits .wired .driven-there), rw (c .driven .ensures) (changed-none (rw (p .1) at (p .0 .long)) (p .1)))
 
--- a node of the loop has a place in the array
+-- what is raised is in range
+begun : (c : tie.Start Inv-loop μ-loop) → Evaluable (c .args .board .now) (c .args .stretches .now) (c .args .stored .now) (c .args .volts .now)
+begun c = rw (c .pre .1) at (c .pre .0 .evaluable)
+
+-- the node of the loop has a place in the array
+there : (c : tie.In-loop Inv-loop μ-loop) → c .before .loop .i ≤ nodesOn (c .before .before .before .before .args .board .now)
+there c = omega (arith, c .before .before .before .nodes .ensures)
+
 place : (c : tie.In-loop Inv-loop μ-loop) → c .before .loop .i < 16
-place c = omega (arith, c .before .before .before .nodes .ensures, c .before .before .before .before .pre .0 .few)
+place c = place-of (c .before .before .before .before .pre .0) (there c)
 
 -- its voltage
 at-node : (c : tie.After-one-up-arg Inv-loop μ-loop) → toZ w64 (ofZ w64 (reading (c .before .before .before .before .before .args .volts .now) (c .before .before .loop .i))) ≡ reading (c .before .before .before .before .before .args .volts .now) (c .before .before .loop .i)
@@ -46,10 +56,10 @@ element-copy-out-one-up : tie.Need-element-copy-out-one-up Inv-loop μ-loop
 element-copy-out-one-up c = place c
 
 one-up-requires : tie.Need-one-up-requires Inv-loop μ-loop
-one-up-requires c κs = rw (at-node c) (c .before .before .before .before .before .pre .0 .ranged (c .before .before .loop .i) (omega (arith, c .before .before .before .before .nodes .ensures)))
+one-up-requires c κs = rw (at-node c) (begun (c .before .before .before .before .before) .ranged (c .before .before .loop .i) (there (c .before)))
 
-mul-t13 : tie.Need-mul-t13 Inv-loop μ-loop
-mul-t13 c = record { fits = omega (arith, place (c .before .before)) }
+mul-t16 : tie.Need-mul-t16 Inv-loop μ-loop
+mul-t16 c = record { fits = omega (arith, place (c .before .before)) }
 
 element-set-from-s : tie.Need-element-set-from-s Inv-loop μ-loop
 element-set-from-s c = place (c .before .before)
@@ -64,10 +74,18 @@ loop-again : tie.Need-loop-again Inv-loop μ-loop
 loop-again c =
     let l = c .before .before .before .loop in
     let e : toZ w64 (ofZ w64 (c .one-up .result)) ≡ c .one-up .result = search needs in
-    (omega arith, omega arith, changed-more (l .inv .2) (l .inv .0) (place (c .before .before)) (e ∙ (rw (at-node (c .before)) at (c .one-up .ensures))))
+    (omega arith, omega arith, changed-more (l .inv .2) (l .inv .0) (place (c .before .before)) (e ∙ (rw (at-node (c .before)) at (c .one-up .ensures))) refl)
+
+shift-requires : tie.Need-shift-requires Inv-loop μ-loop
+shift-requires c κs =
+    let s = c .before .before .before .before .before .before in
+    (begun s, raised-evaluable (begun s) (changed-all (c .before .before .before .loop .inv .2) (omega (arith, c .before .before .before .before .before .nodes .ensures))), rw (s .pre .1) at (s .pre .0 .netted))
 
 returns : tie.Need-returns Inv-loop μ-loop
-returns c = changed-all (c .before .loop .inv .2) (omega (arith, c .before .before .before .nodes .ensures))
+returns c =
+    let s = c .before .before .before .before .before .before .before in
+    let h : Raised (s .args .board .now) (s .args .volts .now) (c .before .before .before .before .loop .s) = changed-all (c .before .before .before .before .loop .inv .2) (omega (arith, c .before .before .before .before .before .before .nodes .ensures)) in
+    (record { evaluable = raised-evaluable (begun s) h; long = h .long; ground = h .same 0 (omega arith) ∙ (rw (s .pre .1) at (s .pre .0 .ground)); netted = c .shift .ensures }, h)
 
 pub lift-spec : {M : Type 1} → statement M
 lift-spec =
@@ -82,9 +100,10 @@ lift-spec =
     mul-one-up
     element-copy-out-one-up
     one-up-requires
-    mul-t13
+    mul-t16
     element-set-from-s
     add-i-2
     loop-less
     loop-again
+    shift-requires
     returns)

@@ -1,23 +1,26 @@
-use mathlib.Core.Path.{sym, _∙_}
+use mathlib.Core.Path.{refl}
+use Prim.Native.Nat.{ℕ, _^_, _≤_}
+use native.Mathlib.Omega.{arith}
+use lib.IntN.{ℤ}
 use Rattle.network.specs.Network.{reading}
+use Rattle.network.specs.Sample.{Legal, Low}
 use Rattle.network.specs.Search.{depth}
 use Rattle.circuit.specs.Board.{networkOn}
 use Rattle.solve.specs.Search.{Searching}
-use Rattle.solve.specs.Climb.{Up, Risen}
-use Rattle.solve.proofs.PlaceLaws.{places-of, searching-on}
-use Rattle.solve.proofs.ClimbLaws.{up-none, up-more, risen-up}
+use Rattle.solve.proofs.ClimbLaws.{Turned, turned}
 use borrow.Author.Needs.{needs}
 use Rattle.solve.proofs.climb.climb.Statement.{statement}
 use Rattle.solve.proofs.climb.climb.Tie as tie
 
 abbrev Inv-loop : tie.InvT-loop
-Inv-loop board stretches stored volts₀ volts = Searching board stretches stored volts × Up board stretches stored volts₀ volts
+Inv-loop board stretches stored volts₀ nets₀ reach₀ volts nets reach =
+    (reach ≤ 2 ^ 26) × Searching board stretches stored volts nets × Low (networkOn board stretches) (reading stored) (reading volts) × ((d : ℕ → ℤ) → Legal (networkOn board stretches) d (reading volts₀) → Legal (networkOn board stretches) d (reading volts))
 
 abbrev μ-loop : tie.MeasureT-loop
-μ-loop board stretches stored volts₀ volts = depth (networkOn board stretches) (reading volts)
+μ-loop board stretches stored volts₀ nets₀ reach₀ volts nets reach = depth (networkOn board stretches) (reading volts)
 
 loop-holds : tie.Need-loop-holds Inv-loop μ-loop
-loop-holds c = (c .pre, up-none (c .pre))
+loop-holds c = (omega arith, c .pre .0, c .pre .1, λ d legal. legal)
 
 copied-requires : tie.Need-copied-requires Inv-loop μ-loop
 copied-requires c κs = search needs
@@ -26,50 +29,44 @@ copied-requires-2 : tie.Need-copied-requires-2 Inv-loop μ-loop
 copied-requires-2 c κs = search needs
 
 certify-requires : tie.Need-certify-requires Inv-loop μ-loop
-certify-requires c κs =
-    let h = c .before .before .before .before .before .before .loop .inv .0 in
-    let e = c .before .before .before .before .copied .ensures .0 in
-    (rw e (h .evaluable), rw e (places-of h), c .before .before .copied2 .ensures .0 ∙ sym e)
+certify-requires c κs = rw (c .before .before .before .before .before .copied .ensures .0, c .before .before .before .copied2 .ensures .0) (c .before .before .before .before .before .before .before .loop .inv .1, refl)
 
 enum-told : tie.Need-enum-told Inv-loop μ-loop
 enum-told c = search needs
 
 returns : tie.Need-returns Inv-loop μ-loop
-returns c =
-    λ d legal low.
-    let h = c .before .before .before .before .before .before .before .before .before .loop .inv .1 .low d legal low in
-    (rw (c .before .before .before .before .before .before .before .copied .ensures .0) at (rw (c .enum-told .given .1) at (c .before .before .certify .ensures))) d (h .0) (h .1)
-
--- where the visit sticks is higher
-higher : (c : tie.After-enum-told2 Inv-loop μ-loop) → Risen (c .before .before .before .before .before .before .before .before .before .before .args .board .now) (c .before .before .before .before .before .before .before .before .before .before .args .stretches .now) (c .before .before .before .before .before .before .before .before .before .before .args .stored .now) (c .before .before .before .before .before .before .before .before .before .loop .volts) (c .before .before .certify .last .1 .1 .1 .1 .0)
-higher c = rw (c .before .before .before .before .before .before .before .copied .ensures .0) at (rw (c .enum-told2 .given .1) at (c .before .before .certify .ensures))
+returns c = λ d legal. let h = c .before .before .before .before .before .before .before .before .before .before .loop .inv in (rw (c .enum-told .given .1) at (c .before .before .certify .ensures .1)) d (h .3 d legal) (h .2)
 
 enum-told-2 : tie.Need-enum-told-2 Inv-loop μ-loop
 enum-told-2 c = search needs
 
-leaps-requires : tie.Need-leaps-requires Inv-loop μ-loop
-leaps-requires c κs =
-    let h = c .before .before .before .before .before .before .before .before .before .before .before .loop .inv .0 in
-    let k = higher (c .before .before) .up in
-    (searching-on h (k .long) (k .ranged), rw (c .before .before .before .before .before .before .before .before .before .copied .ensures .0) (h .evaluable .ranged))
+stride-requires : tie.Need-stride-requires Inv-loop μ-loop
+stride-requires c κs = let r = c .before .before .before .before .before .before .before .before .before .before .before .before .before .before .loop .inv .1 .evaluable .ready .laid .limits in (r .few-nodes, r .wired .driven-there)
 
-ascend-requires : tie.Need-ascend-requires Inv-loop μ-loop
-ascend-requires c κs = searching-on (c .before .before .before .before .before .before .before .before .before .before .before .before .before .loop .inv .0) (c .before .leaps .ensures .long) (c .before .leaps .ensures .ranged)
+farther-requires : tie.Need-farther-requires Inv-loop μ-loop
+farther-requires c κs = (c .stride .ensures, search needs)
 
--- .. and nothing that follows is lower
-onward : (c : tie.After-ascend Inv-loop μ-loop) → Risen (c .before .before .before .before .before .before .before .before .before .before .before .before .before .before .before .args .board .now) (c .before .before .before .before .before .before .before .before .before .before .before .before .before .before .before .args .stretches .now) (c .before .before .before .before .before .before .before .before .before .before .before .before .before .before .before .args .stored .now) (c .before .before .before .before .before .before .before .before .before .before .before .before .before .before .loop .volts) (c .ascend .last .1 .1 .1 .0)
-onward c =
-    let k = higher (c .before .before .before .before .before) in
-    risen-up (risen-up k (c .before .before .leaps .ensures .up (λ j h. rw (c .before .before .before .before .before .before .before .before .before .before .before .before .copied .ensures .0) (k .up .over j h)))) (c .ascend .ensures)
+doubled-requires : tie.Need-doubled-requires Inv-loop μ-loop
+doubled-requires c κs = search needs
+
+raise-requires : tie.Need-raise-requires Inv-loop μ-loop
+raise-requires c κs = (c .before .before .before .before .before .before .before .before .before .before .before .before .certify .ensures .0, c .before .before .before .before .farther .ensures)
+
+settle-requires : tie.Need-settle-requires Inv-loop μ-loop
+settle-requires c κs = c .before .before .raise .ensures .0
+
+-- what the turn came to
+turn : (c : tie.After-settle Inv-loop μ-loop) → Turned (c .before .before .before .before .before .before .before .before .before .before .before .before .before .before .before .before .before .before .before .before .before .before .before .before .before .args .board .now) (c .before .before .before .before .before .before .before .before .before .before .before .before .before .before .before .before .before .before .before .before .before .before .before .before .before .args .stretches .now) (c .before .before .before .before .before .before .before .before .before .before .before .before .before .before .before .before .before .before .before .before .before .before .before .before .before .args .stored .now) (c .before .before .before .before .before .before .before .before .before .before .before .before .before .before .before .before .before .before .before .before .before .before .before .before .loop .volts) (c .settle .last .1 .1 .1 .0)
+turn c =
+    let h = c .before .before .before .before .before .before .before .before .before .before .before .before .before .before .before .before .before .before .before .before .before .before .before .before .loop .inv in
+    let k = c .before .before .before .raise .ensures in
+    turned (h .1) (h .2) (rw (c .before .before .before .before .before .before .before .before .before .before .before .before .before .before .enum-told2 .given .1) at (c .before .before .before .before .before .before .before .before .before .before .before .before .before .before .before .before .certify .ensures .1)) (k .0) (k .1) (c .settle .result) (c .settle .ensures .1)
 
 loop-less : tie.Need-loop-less Inv-loop μ-loop
-loop-less c = onward c .falls
+loop-less c = turn c .falls
 
 loop-again : tie.Need-loop-again Inv-loop μ-loop
-loop-again c =
-    let l = c .before .before .before .before .before .before .before .before .before .before .before .before .before .before .loop in
-    let r = onward c .up in
-    (searching-on (l .inv .0) (r .long) (r .ranged), up-more (l .inv .1) r)
+loop-again c = let t = turn c in (c .before .before .before .before .before .before .before .doubled .ensures, c .settle .ensures .0, t .low, λ d legal. t .legal d (c .before .before .before .before .before .before .before .before .before .before .before .before .before .before .before .before .before .before .before .before .before .before .before .before .loop .inv .3 d legal))
 
 pub climb-spec : {M : Type 1} → statement M
 climb-spec =
@@ -84,7 +81,10 @@ climb-spec =
     enum-told
     returns
     enum-told-2
-    leaps-requires
-    ascend-requires
+    stride-requires
+    farther-requires
+    doubled-requires
+    raise-requires
+    settle-requires
     loop-less
     loop-again)

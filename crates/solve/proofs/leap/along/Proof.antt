@@ -1,5 +1,5 @@
 use mathlib.Core.Path.{_≡_, _∙_}
-use lib.IntN.{ℤ, pos, _-ℤ_, _*ℤ_}
+use lib.IntN.{pos, _-ℤ_, _*ℤ_}
 use Rattle.units.proofs.Sizes.{abs-mul}
 use Rattle.solve.proofs.LeapLaws.{way-fits}
 use native.Mathlib.Omega.{arith}

@@ -1,5 +1,6 @@
-use Rattle.solve.proofs.PlaceLaws.{places-of}
-use Rattle.solve.proofs.LeapLaws.{led-evaluable, led-sinkable, leap-lands, leapt-none}
+use mathlib.Core.Path.{refl}
+use Rattle.solve.proofs.SweepLaws.{down-none}
+use Rattle.solve.proofs.LeapLaws.{led-sinkable, leap-down}
 use borrow.Author.Needs.{needs}
 use Rattle.solve.proofs.leap.leap.Statement.{statement}
 use Rattle.solve.proofs.leap.leap.Tie as tie
@@ -7,19 +8,22 @@ use Rattle.solve.proofs.leap.leap.Tie as tie
 copied-requires : tie.Need-copied-requires
 copied-requires c κs = search needs
 
+copied-requires-2 : tie.Need-copied-requires-2
+copied-requires-2 c κs = search needs
+
 lead-requires : tie.Need-lead-requires
-lead-requires c κs = let p = c .before .before .before .before .pre in (places-of (p .0), p .1, p .2, c .before .before .copied .ensures .0)
+lead-requires c κs = let p = c .before .before .before .before .before .before .before .pre in rw (c .before .before .before .before .before .copied .ensures .0, c .before .before .before .copied2 .ensures .0) (p .0, p .1, p .2, refl)
 
 land-requires : tie.Need-land-requires
-land-requires c κs =
-    let s = c .before .before .before .before .before .before .before in
-    (led-evaluable (s .args .from .now) (s .pre .0) (c .before .before .lead .ensures), led-sinkable (s .args .from .now) (s .pre .0) (c .before .before .lead .ensures))
+land-requires c κs = let k = c .before .before .before .lead .ensures in (k .0, led-sinkable (k .1))
 
 returns : tie.Need-returns
-returns c = let s = c .before .before .before .before .before .before .before .before .before in leap-lands (s .args .from .now) (s .pre .0) (c .before .before .before .before .lead .ensures) (c .before .land .ensures (c .if1 .taken))
+returns c = let k = c .before .land .ensures in (k .0, leap-down (c .before .before .before .before .before .lead .ensures .1) (k .0) (k .1 (c .if1 .taken)))
 
 returns-2 : tie.Need-returns-2
-returns-2 c = leapt-none (c .before .before .before .before .before .before .before .before .before .pre .0)
+returns-2 c = (c .before .before .before .before .before .before .before .before .before .before .before .before .before .pre .0, down-none)
 
 pub leap-spec : {M : Type 1} → statement M
-leap-spec = tie.close (tie.spec copied-requires lead-requires land-requires returns returns-2)
+leap-spec =
+    tie.close
+    (tie.spec copied-requires copied-requires-2 lead-requires land-requires returns returns-2)

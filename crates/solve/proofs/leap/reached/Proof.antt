@@ -1,10 +1,7 @@
-use mathlib.Core.Path.{_≡_, sym, _∙_}
-use borrow.Author.Tests.{leb-true}
-use Rattle.units.proofs.Integers.{ltZ-true}
+use mathlib.Core.Path.{sym, _∙_}
+use Rattle.units.proofs.Integers.{leZ-true, ltZ-true}
 use Rattle.solve.proofs.LeapLaws.{reached-here, reached-there}
 use borrow.Author.Needs.{needs}
-use mir.Syntax.{w64}
-use mir.Val.{toZ, ofZ}
 use mir.Facts.{toZ-ofZ}
 use Rattle.solve.proofs.leap.reached.Statement.{statement}
 use Rattle.solve.proofs.leap.reached.Tie as tie
@@ -12,8 +9,8 @@ use Rattle.solve.proofs.leap.reached.Tie as tie
 along-requires : tie.Need-along-requires
 along-requires c κs = rw (toZ-ofZ (c .fits .b), toZ-ofZ (c .fits .v)) (c .pre)
 
-in-range-requires : tie.Need-in-range-requires
-in-range-requires c κs = search needs
+at-most-requires : tie.Need-at-most-requires
+at-most-requires c κs = search needs
 
 above-bottom-requires : tie.Need-above-bottom-requires
 above-bottom-requires c κs = search needs
@@ -21,8 +18,7 @@ above-bottom-requires c κs = search needs
 returns : tie.Need-returns
 returns c =
     let s = c .before .before .before .before .before in
-    let e : toZ w64 (ofZ w64 (c .before .before .before .before .along .result)) ≡ c .before .before .before .before .along .result = search needs in
-    reached-there (s .args .b) (s .args .v) _ (s .args .m) (e ∙ (rw (toZ-ofZ (s .fits .b), toZ-ofZ (s .fits .v)) at (c .before .before .before .before .along .ensures))) (leb-true _ _ (sym (c .before .before .before .in-range .ensures) ∙ c .before .before .if1 .taken)) (ltZ-true _ _ (sym (c .before .above-bottom .ensures) ∙ c .if2 .taken))
+    reached-there (s .args .v) _ (s .pre .1) (leZ-true _ _ (sym (rw (toZ-ofZ (s .fits .v)) at (c .before .before .before .at-most .ensures)) ∙ c .before .before .if1 .taken)) (ltZ-true _ _ (sym (c .before .above-bottom .ensures) ∙ c .if2 .taken))
 
 returns-2 : tie.Need-returns-2
 returns-2 c = let s = c .before .before .before .before .before in rw (toZ-ofZ (s .fits .v)) (reached-here (s .pre .1))
@@ -35,7 +31,7 @@ reached-spec =
     tie.close
     (tie.spec
     along-requires
-    in-range-requires
+    at-most-requires
     above-bottom-requires
     returns
     returns-2

@@ -4,10 +4,11 @@ use lib.IntN.{ℤ, pos, natAbs, _-ℤ_}
 use lib.Signed.{_<ℤ_}
 use borrow.Author.Tests.{leb-true, leb-false}
 use Rattle.units.specs.Integer.{roundedUp}
-use Rattle.units.specs.Voltage.{voltageLimit}
+use Rattle.units.specs.Voltage.{voltageLimit, InRange}
 use Rattle.units.proofs.Integers.{leZ-true, leZ-false}
 use Rattle.network.specs.Network.{reading, net}
 use Rattle.circuit.specs.Board.{networkOn, steepestOn}
+use Rattle.solve.proofs.PlaceLaws.{place-of}
 use Rattle.solve.proofs.StepLaws.{net-small, steep-some, steep-fits, step-lowered, step-out}
 use native.Mathlib.Omega.{arith}
 use borrow.Author.Needs.{needs}
@@ -18,54 +19,58 @@ use Rattle.solve.proofs.settle.step.Tie as tie
 
 -- the node has a place in the array
 place : (c : tie.Start) → c .args .i < 16
-place c = omega (arith, c .pre .0 .evaluable .ready .laid .limits .few-nodes, c .pre .1 .1)
+place c = place-of (c .pre .0) (c .pre .1 .1)
 
 -- the node's net current
 f : tie.Start → ℤ
 f c = net 1 (networkOn (c .args .board .now) (c .args .stretches .now)) (reading (c .args .stored .now)) (reading (c .args .volts .now)) (c .args .i)
 
-at-net : (c : tie.After-net-current) → toZ w64 (ofZ w64 (c .net-current .result)) ≡ f (c .before .before)
+at-net : (c : tie.After-f) → toZ w64 (ofZ w64 (reading (c .before .args .nets .now) (c .before .args .i))) ≡ f (c .before)
 unfolding f
 at-net c =
-    let e : toZ w64 (ofZ w64 (c .net-current .result)) ≡ c .net-current .result = search needs in
-    e ∙ c .net-current .ensures
+    let s = c .before in
+    let e : toZ w64 (ofZ w64 (reading (s .args .nets .now) (s .args .i))) ≡ reading (s .args .nets .now) (s .args .i) = search needs in
+    e ∙ s .pre .0 .netted .each (s .args .i) (s .pre .1 .1)
 
-net-current-requires : tie.Need-net-current-requires
-net-current-requires c κs = (c .before .pre .0 .evaluable, c .before .pre .1 .1)
+mul-f : tie.Need-mul-f
+mul-f c = record { fits = omega (arith, place c) }
+
+element-copy-out-f : tie.Need-element-copy-out-f
+element-copy-out-f c = place c
 
 at-most-requires : tie.Need-at-most-requires
 at-most-requires c κs = search needs
 
 returns : tie.Need-returns
 unfolding f
-returns c = (refl, leZ-true _ _ (sym (rw (at-net (c .before .before)) at (c .before .at-most .ensures)) ∙ c .if1 .taken))
+returns c = (c .before .before .before .pre .0, (refl, leZ-true _ _ (sym (rw (at-net (c .before .before)) at (c .before .at-most .ensures)) ∙ c .if1 .taken)))
 
-high : (c : tie.Else1) → pos 0 <ℤ f (c .before .before .before .before)
+high : (c : tie.Else1) → pos 0 <ℤ f (c .before .before .before)
 high c = leZ-false _ _ (sym (rw (at-net (c .before .before)) at (c .before .at-most .ensures)) ∙ c .if1 .left)
 
 mul-lower-by : tie.Need-mul-lower-by
-mul-lower-by c = record { fits = omega (arith, place (c .before .before .before .before)) }
+mul-lower-by c = record { fits = omega (arith, place (c .before .before .before)) }
 
 element-copy-out-lower-by : tie.Need-element-copy-out-lower-by
-element-copy-out-lower-by c = place (c .before .before .before .before)
+element-copy-out-lower-by c = place (c .before .before .before)
 
 steepest-requires : tie.Need-steepest-requires
-steepest-requires c κs = place (c .before .before .before .before .before)
+steepest-requires c κs = place (c .before .before .before .before)
 
 -- the node's voltage
-at-node : (c : tie.After-steepest) → toZ w64 (ofZ w64 (reading (c .before .before .before .before .before .before .args .volts .now) (c .before .before .before .before .before .before .args .i))) ≡ reading (c .before .before .before .before .before .before .args .volts .now) (c .before .before .before .before .before .before .args .i)
+at-node : (c : tie.After-steepest) → toZ w64 (ofZ w64 (reading (c .before .before .before .before .before .args .volts .now) (c .before .before .before .before .before .args .i))) ≡ reading (c .before .before .before .before .before .args .volts .now) (c .before .before .before .before .before .args .i)
 at-node c = search needs
 
 lower-by-requires : tie.Need-lower-by-requires
 unfolding f
 lower-by-requires c κs =
-    let s = c .before .before .before .before .before .before in
+    let s = c .before .before .before .before .before in
     let i = s .args .i in
     rw (at-node c, at-net (c .before .before .before .before), c .steepest .ensures)
     (s .pre .0 .evaluable .ranged i (s .pre .1 .1), net-small (s .pre .0) i (s .pre .1), steep-some (s .pre .0) i (s .pre .1), steep-fits (s .pre .0) i (s .pre .1))
 
 -- where the step leads
-there : (c : tie.After-lower-by) → toZ w64 (ofZ w64 (c .lower-by .result)) ≡ reading (c .before .before .before .before .before .before .before .args .volts .now) (c .before .before .before .before .before .before .before .args .i) -ℤ pos (roundedUp (natAbs (f (c .before .before .before .before .before .before .before))) (steepestOn (c .before .before .before .before .before .before .before .args .board .now) (c .before .before .before .before .before .before .before .args .i)))
+there : (c : tie.After-lower-by) → toZ w64 (ofZ w64 (c .lower-by .result)) ≡ reading (c .before .before .before .before .before .before .args .volts .now) (c .before .before .before .before .before .before .args .i) -ℤ pos (roundedUp (natAbs (f (c .before .before .before .before .before .before))) (steepestOn (c .before .before .before .before .before .before .args .board .now) (c .before .before .before .before .before .before .args .i)))
 there c =
     let e : toZ w64 (ofZ w64 (c .lower-by .result)) ≡ c .lower-by .result = search needs in
     e ∙ (rw (at-node (c .before), at-net (c .before .before .before .before .before), c .before .steepest .ensures) at (c .lower-by .ensures))
@@ -73,28 +78,31 @@ there c =
 in-range-requires : tie.Need-in-range-requires
 in-range-requires c κs = search needs
 
-mul-v : tie.Need-mul-v
-mul-v c = record { fits = omega (arith, place (c .before .before .before .before .before .before .before .before .before)) }
+inside : (c : tie.Then2) → InRange (toZ w64 (ofZ w64 (c .before .before .lower-by .result)))
+inside c = leb-true _ _ (sym (c .before .in-range .ensures) ∙ c .if2 .taken)
 
-element-set-from-v : tie.Need-element-set-from-v
-element-set-from-v c = place (c .before .before .before .before .before .before .before .before .before)
+put-requires : tie.Need-put-requires
+put-requires c κs = let s = c .before .before .before .before .before .before .before .before .before .before in (s .pre .0, s .pre .1, inside (c .before .before))
 
 returns-2 : tie.Need-returns-2
 unfolding f
-returns-2 c = let s = c .before .before .before .before .before .before .before .before .before in step-lowered (s .pre .0) (s .args .i) (s .pre .1) (high (c .before .before .before .before .before)) (there (c .before .before)) (leb-true _ _ (sym (c .before .in-range .ensures) ∙ c .if2 .taken))
+returns-2 c =
+    let s = c .before .before .before .before .before .before .before .before .before .before .before in
+    (c .put .ensures .0, rw (c .put .ensures .1) (step-lowered (s .pre .0) (s .args .i) (s .pre .1) (high (c .before .before .before .before .before .before .before .before)) (there (c .before .before .before .before .before)) (inside (c .before .before .before))))
 
 returns-3 : tie.Need-returns-3
 unfolding f
 returns-3 c =
-    let s = c .before .before .before .before .before .before .before .before .before in
+    let s = c .before .before .before .before .before .before .before .before in
     let h : voltageLimit < natAbs (toZ w64 (ofZ w64 (c .before .before .lower-by .result))) = leb-false _ _ (sym (c .before .in-range .ensures) ∙ c .if2 .left) in
-    step-out (s .pre .0) (s .args .i) (s .pre .1) (high (c .before .before .before .before .before)) (there (c .before .before)) (λ inside. omega arith)
+    (s .pre .0, step-out (s .pre .0) (s .args .i) (s .pre .1) (high (c .before .before .before .before .before)) (there (c .before .before)) (λ inside. omega arith))
 
 pub step-spec : {M : Type 1} → statement M
 step-spec =
     tie.close
     (tie.spec
-    net-current-requires
+    mul-f
+    element-copy-out-f
     at-most-requires
     returns
     mul-lower-by
@@ -102,7 +110,6 @@ step-spec =
     steepest-requires
     lower-by-requires
     in-range-requires
-    mul-v
-    element-set-from-v
+    put-requires
     returns-2
     returns-3)
