@@ -4,8 +4,8 @@ import pathlib
 import re
 import sys
 
-# The ending's place, board, stretches, stored currents, voltages.
-CALL = re.compile(r'^  call void @"guess::proposal::propose"\((?:ptr (%\w+)(?:, )?){5}\)$', re.M)
+# The ending's place, board, stretches, stored currents, voltages, and the five arrays that the guess keeps.
+CALL = re.compile(r'^  call void @"guess::proposal::propose"\((?:ptr (%\w+)(?:, )?){10}\)$', re.M)
 OUTSIDE = "\ndeclare void @bench_wild(ptr, ptr)\n"
 
 

@@ -1,17 +1,21 @@
 // Newton's way to voltages, in f64: the circuit is taken as straight lines where it stands, those
-// are solved, and so on from there.
+// are solved, and so on from there. The net currents that are to vanish are the exact ones, so that
+// a round corrects whatever the rounds before it lost.
+use crate::lines;
 use crate::matrix;
 use crate::places;
-use crate::straight;
-use crate::tangent::Tangent;
 use crate::ties;
 use crate::whole;
 use circuit::board;
+use circuit::nets;
+use units::signed;
 use units::voltage::Nearest;
 use units::voltage::Voltage;
 ghost use mathlib.Core.Path.{_≡_};
 ghost use Prim.Native.Nat.{_≤_, _<_};
+ghost use lib.IntN.{ℤ};
 ghost use lib.ListN.{length};
+ghost use Rattle.units.specs.Voltage.{InRange};
 ghost use Rattle.circuit.specs.Board.{nodesOn, drivenOn, Laid, Ranged, Evaluable};
 ghost use Rattle.guess.specs.Proposal.{Standing, Proposed};
 
@@ -23,165 +27,265 @@ pub enum Ending {
     Broken,
 }
 
-// What came of a round: by how much a voltage changed at most, or that one is none.
-pub enum Change {
-    Moved(f64),
-    Lost,
-}
+// How many rounds there are at most. Diodes in a row turn on one after the other, a round each.
+const ROUNDS: u64 = 48;
 
 fn larger(a: f64, b: f64) -> f64 {
     if a < b { b } else { a }
 }
 
-// The voltages as f64.
-fn floats(board: &[u64; 293], volts: &[i64; 16]) -> [f64; 16]
+// Which part of a step is made in a round: where curves go back and forth between two lines, half steps
+// and then quarter steps end it.
+fn damping(round: u64) -> f64 {
+    if round < 20 {
+        return 1.0;
+    }
+    if round < 34 { 0.5 } else { 0.25 }
+}
+
+// The net currents of the free nodes.
+fn remaining(
+    board: &[u64; 293],
+    stretches: &[i64; 408],
+    stored: &[i64; 32],
+    volts: &[i64; 16],
+) -> [f64; 15]
+    requires { ⌜ Evaluable (now board) (now stretches) (now stored) (now volts) ⌝ }
+{
+    let exact = nets::taken(board, stretches, stored, volts);
+    let nodes = board::nodes(board);
+    let mut left = [0.0f64; 15];
+    let mut k = board::driven(board);
+    while k < nodes {
+        left[k] = std::num::nearest_i64_to_f64(exact[k + 1]);
+        k += 1;
+    }
+    left
+}
+
+// The largest of them.
+fn largest(board: &[u64; 293], nets: [f64; 15]) -> f64
     requires { ⌜ nodesOn (now board) ≤ 15 ⌝ }
 {
     let nodes = board::nodes(board);
-    let mut x = [0.0f64; 16];
-    let mut i: usize = 0;
-    while i <= nodes {
-        let v = Voltage {
-            microvolts: volts[i],
-        };
-        x[i] = v.to_f64();
-        i += 1;
-    }
-    x
-}
-
-// The free nodes and what was solved for, rounded: in x, and in `volts` as whole microvolts. The change
-// is taken before the old value is overwritten.
-fn shift(board: &[u64; 293], more: [f64; 16], x: &mut [f64; 16], volts: &mut [i64; 16]) -> Change
-    requires { ⌜ (nodesOn (now board) ≤ 15) × (drivenOn (now board) ≤ nodesOn (now board)) × Standing (now board) (now volts) ⌝ }
-    ensures { λ r. ⌜ Standing (now (board .entry)) (now (volts .exit)) ⌝ }
-{
-    let nodes = board::nodes(board);
     let mut most: f64 = 0.0;
-    let mut i = board::driven(board) + 1;
-    while i <= nodes {
-        match Voltage::from_f64(x[i] + more[i]) {
-            Nearest::At(v) => {
-                let next = v.to_f64();
-                most = larger(most, whole::size(next - x[i]));
-                x[i] = next;
-                let whole = v.microvolts;
-                volts[i] = whole;
-                i += 1;
-            }
-            Nearest::Nothing => {
-                return Change::Lost;
-            }
-        }
-    }
-    Change::Moved(most)
-}
-
-// The largest of the free nodes' net currents.
-fn largest(board: &[u64; 293], nets: [f64; 16]) -> f64
-    requires { ⌜ (nodesOn (now board) ≤ 15) × (drivenOn (now board) ≤ nodesOn (now board)) ⌝ }
-{
-    let nodes = board::nodes(board);
-    let mut most: f64 = 0.0;
-    let mut i = board::driven(board) + 1;
-    while i <= nodes {
-        most = larger(most, whole::size(nets[i]));
-        i += 1;
+    let mut k = board::driven(board);
+    while k < nodes {
+        most = larger(most, whole::size(nets[k]));
+        k += 1;
     }
     most
 }
 
-// What remains at a free node at the most, where the nodes stand now.
-fn remaining(
-    board: &[u64; 293],
-    stretches: &[i64; 408],
-    volts: &[i64; 16],
-    tangents: [Tangent; 32],
-    x: &[f64; 16],
-    m: &mut [[f64; 15]; 15],
-) -> f64
-    requires { ⌜ Laid (now board) (now stretches) × Ranged (now board) (now volts) ⌝ }
+// How far each free node has to go, by the lines, until no net current is left.
+fn steps(inverse: &[[f64; 15]; 15], nets: [f64; 15], first: usize, end: usize) -> [f64; 15]
+    requires { ⌜ end ≤ 15 ⌝ }
 {
-    let r = straight::retaken(board, stretches, volts, tangents, m);
-    let here = r.tangents;
-    largest(board, straight::entering(board, here, x))
+    let x = matrix::times(inverse, &nets, first, end);
+    let mut back = [0.0f64; 15];
+    matrix::add(&x, -1.0, &mut back);
+    back
 }
 
-// The free nodes brought to the whole microvolts that the ties find best for what is left over. The
-// ending tells what remains there.
-fn cut(
-    board: &[u64; 293],
-    stretches: &[i64; 408],
-    tangents: [Tangent; 32],
-    spent: bool,
-    x: &mut [f64; 16],
-    m: &mut [[f64; 15]; 15],
-    volts: &mut [i64; 16],
-) -> Ending
-    requires { ⌜ Laid (now board) (now stretches) × Standing (now board) (now volts) ⌝ }
-    ensures { λ r. ⌜ Standing (now (board .entry)) (now (volts .exit)) ⌝ }
+// A step within the range, to one side or the other.
+fn within(x: f64) -> f64 {
+    if 33554431.0 < x {
+        return 33554431.0;
+    }
+    if x < -33554431.0 {
+        return -33554431.0;
+    }
+    x
+}
+
+// Where a node at v comes to if it goes as far as this, in whole microvolts and in range.
+fn gone(v: i64, step: f64) -> i64
+    requires { ⌜ InRange v ⌝ }
+    ensures { λ r. ⌜ InRange r ⌝ }
 {
-    let nets = straight::entering(board, tangents, x);
-    let whole = ties::cut(m, &nets, board::driven(board), board::nodes(board));
-    match shift(board, whole, x, volts) {
-        Change::Lost => Ending::Broken,
-        Change::Moved(_) => {
-            let left = remaining(board, stretches, volts, tangents, x, m);
-            if spent {
-                return Ending::Spent(left);
-            }
-            Ending::Settled(left)
-        }
+    match Voltage::from_f64(within(step)) {
+        Nearest::At(t) => Voltage::clamped(signed::plus(v, t.microvolts)),
+        Nearest::Nothing => v,
     }
 }
 
-// Rounds until no curve is on another line than the one that was solved with, which makes the solution
-// exact, or no voltage changed, or there were enough of them.
+// The node of row k goes a part of the way that x says, and x is what is left of it. How far it went: most
+// nodes go nowhere once they are solved.
+fn go_at(part: f64, k: usize, x: &mut [f64; 15], volts: &mut [i64; 16], board: &[u64; 293]) -> f64
+    requires { ⌜ (k < nodesOn (now board)) × (nodesOn (now board) ≤ 15) × Standing (now board) (now volts) ⌝ }
+    ensures { λ r. ⌜ Standing (now (board .entry)) (now (volts .exit)) ⌝ }
+{
+    let step = whole::nearest(part * x[k]);
+    if step == 0.0 {
+        return 0.0;
+    }
+    volts[k + 1] = gone(volts[k + 1], step);
+    x[k] = x[k] - step;
+    whole::size(step)
+}
+
+// .. and every free node. How far one went at the most.
+fn go(board: &[u64; 293], part: f64, x: &mut [f64; 15], volts: &mut [i64; 16]) -> f64
+    requires { ⌜ (nodesOn (now board) ≤ 15) × Standing (now board) (now volts) ⌝ }
+    ensures { λ r. ⌜ Standing (now (board .entry)) (now (volts .exit)) ⌝ }
+{
+    let nodes = board::nodes(board);
+    let mut most: f64 = 0.0;
+    let mut k = board::driven(board);
+    while k < nodes {
+        most = larger(most, go_at(part, k, x, volts, board));
+        k += 1;
+    }
+    most
+}
+
+// What came of the rounds: every curve is on the line that was solved with, which makes the solution
+// exact; or one isn't; or there was nothing to solve with.
+pub enum Came {
+    Held,
+    Open,
+    Lost,
+}
+
+// How far the nodes have to go, by the lines where they stand. False if there is nothing to solve with.
+fn solved(
+    board: &[u64; 293],
+    stretches: &[i64; 408],
+    stored: &[i64; 32],
+    volts: &[i64; 16],
+    lines: &mut [[f64; 2]; 32],
+    m: &mut [[f64; 15]; 15],
+    inverse: &mut [[f64; 15]; 15],
+    notes: &mut [usize; 96],
+    x: &mut [f64; 15],
+) -> bool
+    requires { ⌜ Evaluable (now board) (now stretches) (now stored) (now volts) ⌝ }
+{
+    if !lines::refreshed(board, stretches, stored, volts, lines, m, inverse, notes) {
+        return false;
+    }
+    *x = steps(
+        inverse,
+        remaining(board, stretches, stored, volts),
+        board::driven(board),
+        board::nodes(board),
+    );
+    true
+}
+
+// Rounds until every curve holds, or no voltage changed, or there were enough of them. x is how far the
+// nodes still have to go.
+fn rounds(
+    board: &[u64; 293],
+    stretches: &[i64; 408],
+    stored: &[i64; 32],
+    volts: &mut [i64; 16],
+    lines: &mut [[f64; 2]; 32],
+    m: &mut [[f64; 15]; 15],
+    inverse: &mut [[f64; 15]; 15],
+    notes: &mut [usize; 96],
+    x: &mut [f64; 15],
+) -> Came
+    requires { ⌜ Evaluable (now board) (now stretches) (now stored) (now volts) × Standing (now board) (now volts) ⌝ }
+    ensures { λ r. ⌜ Standing (now (board .entry)) (now (volts .exit)) ⌝ }
+{
+    let mut most: f64 = 1.0;
+    let mut round: u64 = 0;
+    while round < ROUNDS {
+        if !solved(board, stretches, stored, volts, lines, m, inverse, notes, x) {
+            return Came::Lost;
+        }
+        if most < 0.5 {
+            return Came::Open;
+        }
+        most = go(board, damping(round), x, volts);
+        if lines::hold(board, stretches, volts, lines, notes) {
+            return Came::Held;
+        }
+        round += 1;
+    }
+    Came::Open
+}
+
+// The rest of the way in the whole microvolts that the ties find best. What remains then.
+fn end(
+    board: &[u64; 293],
+    stretches: &[i64; 408],
+    stored: &[i64; 32],
+    m: &[[f64; 15]; 15],
+    inverse: &[[f64; 15]; 15],
+    x: [f64; 15],
+    notes: &mut [usize; 96],
+    way: &mut [[f64; 34]; 15],
+    volts: &mut [i64; 16],
+) -> f64
+    requires { ⌜ Evaluable (now board) (now stretches) (now stored) (now volts) × Standing (now board) (now volts) ⌝ }
+    ensures { λ r. ⌜ Standing (now (board .entry)) (now (volts .exit)) ⌝ }
+{
+    let mut whole = ties::cut(
+        m,
+        inverse,
+        x,
+        board::driven(board),
+        board::nodes(board),
+        notes,
+        way,
+    );
+    go(board, 1.0, &mut whole, volts);
+    largest(board, remaining(board, stretches, stored, volts))
+}
+
+// The rounds and then whole microvolts.
 fn search(
     board: &[u64; 293],
     stretches: &[i64; 408],
     stored: &[i64; 32],
     volts: &mut [i64; 16],
+    lines: &mut [[f64; 2]; 32],
+    m: &mut [[f64; 15]; 15],
+    inverse: &mut [[f64; 15]; 15],
+    notes: &mut [usize; 96],
+    way: &mut [[f64; 34]; 15],
 ) -> Ending
     requires { ⌜ Evaluable (now board) (now stretches) (now stored) (now volts) × Standing (now board) (now volts) ⌝ }
     ensures { λ r. ⌜ Standing (now (board .entry)) (now (volts .exit)) ⌝ }
 {
-    let driven = board::driven(board);
-    let nodes = board::nodes(board);
-    let mut x = floats(board, volts);
-    let mut m = straight::leaks(board);
-    let mut tangents = straight::taken(board, stretches, stored, volts, &mut m);
-    let mut changed = true;
-    let mut difference: f64 = 1.0;
-    let mut rounds: u64 = 0;
-    while changed && 0.5 < difference && rounds < 12 {
-        let solution = matrix::solve(m, straight::entering(board, tangents, &x), driven, nodes);
-        if !solution.found {
-            return Ending::Broken;
-        }
-        let more = solution.x;
-        match shift(board, more, &mut x, volts) {
-            Change::Lost => {
-                return Ending::Broken;
-            }
-            Change::Moved(d) => {
-                difference = d;
-            }
-        }
-        let r = straight::retaken(board, stretches, volts, tangents, &mut m);
-        tangents = r.tangents;
-        changed = r.changed;
-        rounds += 1;
-    }
-    cut(
+    let mut x = [0.0f64; 15];
+    match rounds(
         board,
         stretches,
-        tangents,
-        changed & (0.5 < difference),
-        &mut x,
-        &mut m,
+        stored,
         volts,
-    )
+        lines,
+        m,
+        inverse,
+        notes,
+        &mut x,
+    ) {
+        Came::Lost => Ending::Broken,
+        Came::Held => Ending::Settled(end(
+            board,
+            stretches,
+            stored,
+            m,
+            inverse,
+            x,
+            notes,
+            way,
+            volts,
+        )),
+        Came::Open => Ending::Spent(end(
+            board,
+            stretches,
+            stored,
+            m,
+            inverse,
+            x,
+            notes,
+            way,
+            volts,
+        )),
+    }
 }
 
 // Rounded proposals for the free nodes in `guess`; those of `volts` if the search broke.
@@ -190,13 +294,28 @@ pub fn newton(
     stretches: &[i64; 408],
     stored: &[i64; 32],
     volts: &[i64; 16],
+    lines: &mut [[f64; 2]; 32],
+    m: &mut [[f64; 15]; 15],
+    inverse: &mut [[f64; 15]; 15],
+    notes: &mut [usize; 96],
+    way: &mut [[f64; 34]; 15],
     guess: &mut [i64; 16],
 ) -> Ending
     requires { ⌜ Evaluable (now board) (now stretches) (now stored) (now volts) × (length (now guess) ≡ 16) ⌝ }
     ensures { λ r. ⌜ Proposed (now (board .entry)) (now (guess .entry)) (now (guess .exit)) ⌝ }
 {
     let mut at = circuit::places::copied(volts);
-    match search(board, stretches, stored, &mut at) {
+    match search(
+        board,
+        stretches,
+        stored,
+        &mut at,
+        lines,
+        m,
+        inverse,
+        notes,
+        way,
+    ) {
         Ending::Settled(left) => {
             places::place_free(board, &at, guess);
             Ending::Settled(left)

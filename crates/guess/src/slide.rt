@@ -93,12 +93,13 @@ fn place_node(board: &[u64; 293], x: f64, node: usize, volts: &mut [i64; 16]) ->
     }
 }
 
-// The node moved until its line stays the same, or often enough.
+// The node moved until its line stays the same, or often enough. Without a curve it can't change.
 pub fn slide(
     board: &[u64; 293],
     stretches: &[i64; 408],
     stored: &[i64; 32],
     node: usize,
+    curved: bool,
     volts: &mut [i64; 16],
 ) -> Ending
     requires { ⌜ Evaluable (now board) (now stretches) (now stored) (now volts) × Standing (now board) (now volts) × (node ≤ nodesOn (now board)) ⌝ }
@@ -112,6 +113,9 @@ pub fn slide(
         x = crossing(t);
         if !place_node(board, x, node, volts) {
             return Ending::Broken;
+        }
+        if !curved {
+            return Ending::Settled(left(t, x));
         }
         let next = line(board, stretches, stored, volts, node);
         changed = (next.slope != t.slope) | (next.at_zero != t.at_zero);

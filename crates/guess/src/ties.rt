@@ -2,433 +2,665 @@
 //
 // A stiff link carries current in steps of its conductance, so where it joins two free nodes the
 // nearest whole voltages can be far from the answer: the current that a cut to whole microvolts leaves
-// over has to go through the weak conductances of its lighter side. So the stiffest link is taken
-// first, and the difference across it is tied to the whole number below or above. With the number
-// below, the side that the link leads away from has current to spare; with the one above, the other
-// side has. The spared node's row gives way to the tie, the rest is solved again, and the higher of
-// the two goes on to the next link. A way not taken is tried where it may have led higher.
+// over has to go through the weak conductances of its lighter side. So the links that weigh most are
+// taken first, and the difference across each is tied to the whole number below or above. With the
+// number below, the side that the link leads away from has current to spare; with the one above, the
+// other side has. The spared row gives way to the tie, and all nodes sink by as much as the spared
+// current makes them; the way on which they sink less is taken.
 //
-// Voltages here are what is added to whole microvolts, so a tie's difference is a whole number too.
+// Nothing is eliminated again for that. A row's column of the inverse is how the nodes answer to a
+// current in that row; once a row is spared, every other column is changed so that it leaves the tie
+// as it is. Columns are kept as rows. Voltages here are what is added to whole microvolts, so a tie's
+// difference is a whole number too.
+//
+// `vectors` has three: how far each node has to go, which current is over in the spared rows, and the
+// sums of the columns. `sets` is told in sets.rt, `way` in way.rt.
+use crate::links;
 use crate::matrix;
+use crate::notes;
+use crate::sets;
+use crate::way;
 use crate::whole;
 ghost use Prim.Native.Nat.{_≤_, _<_};
 
-// Which node a node is tied to, 0 for none, and by what difference; and where all nodes stand then.
-pub struct Ties {
-    pub to: [usize; 16],
-    pub by: [f64; 16],
-    pub at: [f64; 16],
-}
+pub const AT: usize = 0;
 
-// The ties so far, and of the ways not taken the highest: its ties and how high it stands.
-pub struct Ways {
-    pub taken: Ties,
-    pub other: Ties,
-    pub height: f64,
-}
+pub const OVER: usize = 1;
 
-// Two nodes whose sets a link joins, and how stiff it is: p is 0 for none.
-pub struct Link {
-    pub p: usize,
-    pub q: usize,
-    pub stiffness: f64,
-}
+const SUMS: usize = 2;
 
-// A link less stiff than this is left to the integers.
-const LEAST_STIFFNESS: f64 = 4.0;
+// Whether the ties go the remembered way, or have left it and note where they go, or can't be noted any
+// more: a strained row was relieved.
+const FOLLOWS: usize = 0;
 
-// Lower than anything stands.
-const LOWEST: f64 = -9007199254740992.0;
+const NOTES: usize = 1;
 
-// A node, whatever the number: past the last it is none.
-fn node(i: usize) -> usize
-    ensures { λ r. ⌜ r ≤ 15 ⌝ }
-{
-    if i < 16 { i } else { 0 }
-}
+const LEFT: usize = 2;
 
-// The node that stands for itself, at the end of the ties that begin at node i.
-fn root(to: &[usize; 16], i: usize) -> usize
-    requires { ⌜ i ≤ 15 ⌝ }
-    ensures { λ r. ⌜ r ≤ 15 ⌝ }
-{
-    let mut r = i;
+// How often a strained row may take its root's place.
+const SWAPS: usize = 16;
+
+// All nodes sink by `by` times u, which takes as much of y off the rows' currents; those in force stay
+// balanced.
+fn sink(
+    vectors: &mut [[f64; 15]; 3],
+    sets: &[[usize; 15]; 3],
+    u: &[f64; 15],
+    y: &[f64; 15],
+    by: f64,
+) {
     let mut k: usize = 0;
-    while k < 16 {
-        let next = node(to[r]);
-        if next == 0 {
-            return r;
-        }
-        r = next;
+    while k < 15 {
+        let over = vectors[OVER][k] - by * y[k];
+        vectors[AT][k] = vectors[AT][k] - by * u[k];
+        vectors[OVER][k] = if sets[sets::SPARED][k] == 0 {
+            0.0
+        } else {
+            over
+        };
         k += 1;
     }
-    r
 }
 
-// The rows of tied nodes give way to their ties.
-fn tie_rows(
-    a: &mut [[f64; 15]; 15],
-    x: &mut [f64; 16],
-    to: &[usize; 16],
-    by: &[f64; 16],
+// Column c takes f times u, whose sum is given, off itself.
+fn turn(
+    columns: &mut [[f64; 15]; 15],
+    vectors: &mut [[f64; 15]; 3],
+    c: usize,
+    u: &[f64; 15],
+    sum: f64,
+    f: f64,
+)
+    requires { ⌜ c < 15 ⌝ }
+{
+    matrix::add_to_row(u, -f, columns, c);
+    vectors[SUMS][c] = vectors[SUMS][c] - f * sum;
+}
+
+// Every column in force changed so that it leaves the difference of two rows as it is.
+fn level(
+    columns: &mut [[f64; 15]; 15],
+    vectors: &mut [[f64; 15]; 3],
+    sets: &[[usize; 15]; 3],
+    u: &[f64; 15],
+    spared: usize,
+    keeps: usize,
+    first: usize,
+    end: usize,
+)
+    requires { ⌜ (spared < 15) × (keeps < 15) × (end ≤ 15) ⌝ }
+{
+    let sum = vectors[SUMS][spared];
+    let inverse = 1.0 / (u[spared] - u[keeps]);
+    let mut c = first;
+    while c < end {
+        if sets[sets::SPARED][c] == 0 {
+            let f = (columns[c][spared] - columns[c][keeps]) * inverse;
+            turn(columns, vectors, c, u, sum, f);
+        }
+        c += 1;
+    }
+}
+
+// A root is spared, which takes `by` of its current: it is tied to another, and their sets are one. y is
+// what that makes of the rows' currents.
+fn tie(
+    columns: &mut [[f64; 15]; 15],
+    vectors: &mut [[f64; 15]; 3],
+    sets: &mut [[usize; 15]; 3],
+    y: &[f64; 15],
+    spared: usize,
+    keeps: usize,
+    by: f64,
+    first: usize,
+    end: usize,
+)
+    requires { ⌜ (spared < 15) × (keeps < 15) × (end ≤ 15) ⌝ }
+{
+    let u = columns[spared];
+    sets::spare(sets, spared);
+    sink(vectors, sets, &u, y, by);
+    level(columns, vectors, sets, &u, spared, keeps, first, end);
+    sets::tie(sets, spared, keeps);
+}
+
+// Whether row k has less to spare than nothing, if it is spared and gives `by` times y.
+fn strains(
+    m: &[[f64; 15]; 15],
+    vectors: &[[f64; 15]; 3],
+    sets: &[[usize; 15]; 3],
+    y: &[f64; 15],
+    by: f64,
+    k: usize,
+) -> bool
+    requires { ⌜ k < 15 ⌝ }
+{
+    if sets[sets::SPARED][k] == 0 {
+        return false;
+    }
+    m[k][k] * whole::ROUNDED < vectors[OVER][k] - by * y[k]
+}
+
+// The first row that does, 15 for none.
+fn strained(
+    m: &[[f64; 15]; 15],
+    vectors: &[[f64; 15]; 3],
+    sets: &[[usize; 15]; 3],
+    y: &[f64; 15],
+    by: f64,
+    first: usize,
+    end: usize,
+) -> usize
+    requires { ⌜ end ≤ 15 ⌝ }
+{
+    let mut k = first;
+    while k < end {
+        if strains(m, vectors, sets, y, by, k) {
+            return k;
+        }
+        k += 1;
+    }
+    15
+}
+
+// What a column has in common with a row of the matrix: the current in that row.
+fn current(
+    m: &[[f64; 15]; 15],
+    i: usize,
+    columns: &[[f64; 15]; 15],
+    c: usize,
+    first: usize,
+    end: usize,
+) -> f64
+    requires { ⌜ (i < 15) × (c < 15) × (end ≤ 15) ⌝ }
+{
+    let mut sum: f64 = 0.0;
+    let mut k = first;
+    while k < end {
+        sum = sum + m[i][k] * columns[c][k];
+        k += 1;
+    }
+    sum
+}
+
+// Every column in force changed so that it leaves row i's current as it is.
+fn balance(
+    m: &[[f64; 15]; 15],
+    columns: &mut [[f64; 15]; 15],
+    vectors: &mut [[f64; 15]; 3],
+    sets: &[[usize; 15]; 3],
+    u: &[f64; 15],
+    sum: f64,
+    i: usize,
+    inverse: f64,
+    first: usize,
+    end: usize,
+)
+    requires { ⌜ (i < 15) × (end ≤ 15) ⌝ }
+{
+    let mut c = first;
+    while c < end {
+        if sets[sets::SPARED][c] == 0 && c != i {
+            let f = current(m, i, columns, c, first, end) * inverse;
+            turn(columns, vectors, c, u, sum, f);
+        }
+        c += 1;
+    }
+}
+
+// Row i, which is strained, takes the place of its set's root r, whose column is u with the currents y.
+fn take_place(
+    m: &[[f64; 15]; 15],
+    columns: &mut [[f64; 15]; 15],
+    vectors: &mut [[f64; 15]; 3],
+    sets: &mut [[usize; 15]; 3],
+    y: &[f64; 15],
+    r: usize,
+    i: usize,
+    first: usize,
+    end: usize,
+)
+    requires { ⌜ (r < 15) × (i < 15) × (end ≤ 15) ⌝ }
+{
+    let u = columns[r];
+    let inverse = 1.0 / y[i];
+    let by = vectors[OVER][i] * inverse;
+    let sum = vectors[SUMS][r];
+    sets::swap(sets, r, i);
+    vectors[OVER][r] = 0.0;
+    sink(vectors, sets, &u, y, by);
+    balance(m, columns, vectors, sets, &u, sum, i, inverse, first, end);
+    columns[i] = [0.0f64; 15];
+    matrix::add_to_row(&u, inverse, columns, i);
+    vectors[SUMS][i] = sum * inverse;
+}
+
+// As long as a row is strained. False where there is no more to do.
+fn relieve(
+    m: &[[f64; 15]; 15],
+    columns: &mut [[f64; 15]; 15],
+    vectors: &mut [[f64; 15]; 3],
+    sets: &mut [[usize; 15]; 3],
     first: usize,
     end: usize,
 )
     requires { ⌜ end ≤ 15 ⌝ }
 {
-    let empty = [0.0f64; 15];
-    let mut k = first;
-    while k < end {
-        let other = node(to[k + 1]);
-        if 0 < other {
-            a[k] = empty;
-            a[k][k] = 1.0;
-            a[k][other - 1] = -1.0;
-            x[k + 1] = by[k + 1];
+    let none = [0.0f64; 15];
+    let mut swap: usize = 0;
+    while swap < SWAPS {
+        let i = strained(m, vectors, sets, &none, 0.0, first, end);
+        if 15 <= i {
+            return;
         }
-        k += 1;
-    }
-}
-
-// What node j + 1 at this voltage adds to the currents of all.
-fn add_row(m: &[[f64; 15]; 15], v: f64, j: usize, first: usize, end: usize, sums: &mut [f64; 16])
-    requires { ⌜ (j < 15) × (end ≤ 15) ⌝ }
-{
-    let mut k = first;
-    while k < end {
-        sums[k + 1] = sums[k + 1] + m[j][k] * v;
-        k += 1;
-    }
-}
-
-// m times the voltages. The matrix is symmetric, so it is added up by rows: no sum waits for its own last
-// step.
-fn currents(m: &[[f64; 15]; 15], at: &[f64; 16], first: usize, end: usize) -> [f64; 16]
-    requires { ⌜ end ≤ 15 ⌝ }
-{
-    let mut sums = [0.0f64; 16];
-    let mut j = first;
-    while j < end {
-        add_row(m, at[j + 1], j, first, end, &mut sums);
-        j += 1;
-    }
-    sums
-}
-
-// A tied node that has no current to spare after all, 0 for none.
-fn strained(
-    m: &[[f64; 15]; 15],
-    b: &[f64; 16],
-    to: &[usize; 16],
-    at: &[f64; 16],
-    first: usize,
-    end: usize,
-) -> usize
-    requires { ⌜ end ≤ 15 ⌝ }
-    ensures { λ r. ⌜ r ≤ 15 ⌝ }
-{
-    let sums = currents(m, at, first, end);
-    let mut k = first;
-    while k < end {
-        if 0 < to[k + 1] {
-            if m[k][k] * whole::ROUNDED < sums[k + 1] - b[k + 1] {
-                return k + 1;
-            }
+        let r = sets::root(sets, i);
+        let y = matrix::times(m, &columns[r], first, end);
+        if !(0.0 < y[i]) {
+            return;
         }
-        k += 1;
+        take_place(m, columns, vectors, sets, &y, r, i, first, end);
+        swap += 1;
     }
-    0
-}
-
-// Solved with these ties. A strained node takes its row back, and the node at the end of its ties is
-// tied to it instead.
-fn solved(m: &[[f64; 15]; 15], b: &[f64; 16], ties: Ties, first: usize, end: usize) -> Ties
-    requires { ⌜ end ≤ 15 ⌝ }
-{
-    let mut to = ties.to;
-    let mut by = ties.by;
-    let mut at = ties.at;
-    let mut turn: usize = 0;
-    while turn < 4 {
-        let mut a = *m;
-        let mut x = *b;
-        tie_rows(&mut a, &mut x, &to, &by, first, end);
-        if !matrix::solve_in(&mut a, &mut x, first, end) {
-            return Ties { to, by, at };
-        }
-        at = x;
-        let i = strained(m, b, &to, &at, first, end);
-        if i == 0 {
-            return Ties { to, by, at };
-        }
-        let r = root(&to, i);
-        to[i] = 0;
-        to[r] = i;
-        by[r] = whole::nearest(at[r] - at[i]);
-        turn += 1;
-    }
-    Ties { to, by, at }
-}
-
-// What row k has in column l goes to row i, column j.
-fn pour(c: &mut [[f64; 15]; 15], i: usize, j: usize, k: usize, l: usize)
-    requires { ⌜ (i < 15) × (j < 15) × (k < 15) × (l < 15) ⌝ }
-{
-    c[i][j] = c[i][j] + c[k][l];
-    c[k][l] = 0.0;
-}
-
-// Row s is added to row r, and then column s to column r.
-fn add(c: &mut [[f64; 15]; 15], r: usize, s: usize, end: usize)
-    requires { ⌜ (r < 15) × (s < 15) × (end ≤ 15) ⌝ }
-{
-    let mut j: usize = 0;
-    while j < end {
-        pour(c, r, j, s, j);
-        j += 1;
-    }
-    let mut i: usize = 0;
-    while i < end {
-        pour(c, i, r, i, s);
-        i += 1;
-    }
-}
-
-// The sets of the nodes r and s become one, under r. Between sets the matrix has their links, and on its
-// diagonal what leads out of a set.
-fn merge(c: &mut [[f64; 15]; 15], r: usize, s: usize, end: usize)
-    requires { ⌜ (r ≤ 15) × (s ≤ 15) × (end ≤ 15) ⌝ }
-{
-    if 0 < r && 0 < s {
-        add(c, r - 1, s - 1, end);
-    }
-}
-
-// The matrix of the sets that these ties make, each under its root.
-fn merged(m: &[[f64; 15]; 15], to: &[usize; 16], end: usize) -> [[f64; 15]; 15]
-    requires { ⌜ end ≤ 15 ⌝ }
-{
-    let mut c = *m;
-    let mut i: usize = 1;
-    while i <= end {
-        let r = root(to, i);
-        if r != i {
-            merge(&mut c, r, i, end);
-        }
-        i += 1;
-    }
-    c
-}
-
-// How stiff a link of conductance g between sets is that have these conductances out of them: how far the
-// lighter one has to move to take up what one microvolt across the link carries.
-fn stiffness(g: f64, one: f64, other: f64) -> f64 {
-    let light = if one < other { one - g } else { other - g };
-    if light < 1.0 {
-        return g;
-    }
-    g / light
-}
-
-// The stiffest link of set k + 1 to one after it, if it is stiffer than the one that is known.
-fn stiffer(c: &[[f64; 15]; 15], k: usize, end: usize, known: Link) -> Link
-    requires { ⌜ (k < 15) × (end ≤ 15) ⌝ }
-{
-    let mut best = known;
-    let mut j = k + 1;
-    while j < end {
-        if c[k][j] < 0.0 {
-            let stiff = stiffness(-c[k][j], c[k][k], c[j][j]);
-            if best.stiffness < stiff {
-                best = Link {
-                    p: k + 1,
-                    q: j + 1,
-                    stiffness: stiff,
-                };
-            }
-        }
-        j += 1;
-    }
-    best
-}
-
-// The stiffest link between sets.
-fn stiffest(c: &[[f64; 15]; 15], first: usize, end: usize) -> Link
-    requires { ⌜ end ≤ 15 ⌝ }
-{
-    let mut best = Link {
-        p: 0,
-        q: 0,
-        stiffness: LEAST_STIFFNESS,
-    };
-    let mut k = first;
-    while k < end {
-        best = stiffer(c, k, end, best);
-        k += 1;
-    }
-    best
 }
 
 // How high all nodes stand together.
-fn height(at: &[f64; 16], end: usize) -> f64
+fn height(vectors: &[[f64; 15]; 3], first: usize, end: usize) -> f64
     requires { ⌜ end ≤ 15 ⌝ }
 {
     let mut sum: f64 = 0.0;
-    let mut i: usize = 1;
-    while i <= end {
-        sum = sum + at[i];
-        i += 1;
+    let mut k = first;
+    while k < end {
+        sum = sum + vectors[AT][k];
+        k += 1;
     }
     sum
 }
 
-// The ties with one more: node r is tied to node s, by d.
-fn tied(ties: Ties, r: usize, s: usize, d: f64) -> Ties
-    requires { ⌜ r ≤ 15 ⌝ }
-{
-    let mut more = ties;
-    more.to[r] = s;
-    more.by[r] = d;
-    more
-}
-
-// One of two ways is taken. The other is put aside, if none that was stands higher.
-fn chosen(ways: Ways, way: Ties, other: Ties, high: f64) -> Ways {
-    if ways.height < high {
-        return Ways {
-            taken: way,
-            other,
-            height: high,
-        };
-    }
-    let aside = ways.other;
-    Ways {
-        taken: way,
-        other: aside,
-        height: ways.height,
-    }
-}
-
-// The higher of two ways is.
-fn higher(ways: Ways, one: Ties, two: Ties, end: usize) -> Ways
-    requires { ⌜ end ≤ 15 ⌝ }
-{
-    let one_at = one.at;
-    let two_at = two.at;
-    let one_high = height(&one_at, end);
-    let two_high = height(&two_at, end);
-    if one_high < two_high {
-        return chosen(ways, two, one, one_high);
-    }
-    chosen(ways, one, two, two_high)
-}
-
-// Two roots are tied by d, which spares the first, or by one more, which spares the second.
-fn either(
+// A root is spared and tied to another, and then strained rows are relieved.
+fn tie_strained(
     m: &[[f64; 15]; 15],
-    b: &[f64; 16],
-    ways: Ways,
+    columns: &mut [[f64; 15]; 15],
+    vectors: &mut [[f64; 15]; 3],
+    sets: &mut [[usize; 15]; 3],
+    spared: usize,
+    keeps: usize,
+    by: f64,
+    first: usize,
+    end: usize,
+)
+    requires { ⌜ (spared < 15) × (keeps < 15) × (end ≤ 15) ⌝ }
+{
+    let y = matrix::times(m, &columns[spared], first, end);
+    tie(columns, vectors, sets, &y, spared, keeps, by, first, end);
+    relieve(m, columns, vectors, sets, first, end);
+}
+
+// Two ways, the first of which strains a row: r is spared by `by`, or s by `or_by`, which alone would cost
+// `loss`. The higher one is taken.
+fn higher(
+    m: &[[f64; 15]; 15],
+    columns: &mut [[f64; 15]; 15],
+    vectors: &mut [[f64; 15]; 3],
+    sets: &mut [[usize; 15]; 3],
     r: usize,
     s: usize,
-    d: f64,
+    by: f64,
+    or_by: f64,
+    loss: f64,
     first: usize,
     end: usize,
-) -> Ways
-    requires { ⌜ (r ≤ 15) × (s ≤ 15) × (end ≤ 15) ⌝ }
+)
+    requires { ⌜ (r < 15) × (s < 15) × (end ≤ 15) ⌝ }
 {
-    let ties = ways.taken;
-    let one = solved(m, b, tied(ties, r, s, d), first, end);
-    let two = solved(m, b, tied(ties, s, r, -(d + 1.0)), first, end);
-    higher(ways, one, two, end)
+    let mut other_columns = *columns;
+    let mut other_vectors = *vectors;
+    let mut other_sets = *sets;
+    let before = height(vectors, first, end);
+    tie_strained(m, columns, vectors, sets, r, s, by, first, end);
+    if before - height(vectors, first, end) <= loss {
+        return;
+    }
+    tie_strained(
+        m,
+        &mut other_columns,
+        &mut other_vectors,
+        &mut other_sets,
+        s,
+        r,
+        or_by,
+        first,
+        end,
+    );
+    if height(vectors, first, end) < height(&other_vectors, first, end) {
+        *columns = other_columns;
+        *vectors = other_vectors;
+        *sets = other_sets;
+    }
 }
 
-// The sets of p and q are tied, by the whole number below the difference of their roots or by the one
-// above.
-fn tie(
+// The way that costs less is taken, r being spared, unless it strains a row. Whether it can be noted.
+fn cheaper(
     m: &[[f64; 15]; 15],
-    b: &[f64; 16],
-    ways: Ways,
-    p: usize,
-    q: usize,
+    columns: &mut [[f64; 15]; 15],
+    vectors: &mut [[f64; 15]; 3],
+    sets: &mut [[usize; 15]; 3],
+    y: &[f64; 15],
+    r: usize,
+    s: usize,
+    by: f64,
+    or_by: f64,
+    loss: f64,
     first: usize,
     end: usize,
-) -> Ways
-    requires { ⌜ (p ≤ 15) × (q ≤ 15) × (end ≤ 15) ⌝ }
+) -> bool
+    requires { ⌜ (r < 15) × (s < 15) × (end ≤ 15) ⌝ }
 {
-    let ties = ways.taken;
-    let to = ties.to;
-    let at = ties.at;
-    let r = root(&to, p);
-    let s = root(&to, q);
-    let d = whole::floor(at[r] - at[s]);
-    either(m, b, ways, r, s, d, first, end)
+    if strained(m, vectors, sets, y, by, first, end) < 15 {
+        higher(m, columns, vectors, sets, r, s, by, or_by, loss, first, end);
+        return false;
+    }
+    tie(columns, vectors, sets, y, r, s, by, first, end);
+    true
 }
 
-// Link after link, as long as one is stiff enough.
-fn grown(m: &[[f64; 15]; 15], b: &[f64; 16], start: Ties, first: usize, end: usize) -> Ways
-    requires { ⌜ end ≤ 15 ⌝ }
+// .. and is noted, if all before it were: `costs` are those of way.rt.
+fn noted(
+    m: &[[f64; 15]; 15],
+    notes: &mut [usize; 96],
+    way: &mut [[f64; 34]; 15],
+    columns: &mut [[f64; 15]; 15],
+    vectors: &mut [[f64; 15]; 3],
+    sets: &mut [[usize; 15]; 3],
+    k: usize,
+    state: usize,
+    r: usize,
+    s: usize,
+    by: f64,
+    or_by: f64,
+    loss: f64,
+    costs: [f64; 4],
+    first: usize,
+    end: usize,
+) -> usize
+    requires { ⌜ (k < 15) × (r < 15) × (s < 15) × (end ≤ 15) ⌝ }
 {
-    let mut ways = Ways {
-        taken: start,
-        other: start,
-        height: LOWEST,
-    };
-    let to = start.to;
-    let mut c = merged(m, &to, end);
-    let mut turn: usize = 0;
-    while turn < 15 {
-        let link = stiffest(&c, first, end);
-        let p = node(link.p);
-        let q = node(link.q);
-        if p == 0 {
-            return ways;
+    let u = columns[r];
+    let y = matrix::times(m, &u, first, end);
+    if state == NOTES {
+        way::note(way, notes, sets, k, r, s, &u, &y, costs);
+    }
+    if cheaper(
+        m,
+        columns,
+        vectors,
+        sets,
+        &y,
+        r,
+        s,
+        by,
+        or_by,
+        loss,
+        first,
+        end,
+    ) {
+        return state;
+    }
+    if state == NOTES {
+        notes::set_remembered(k, notes);
+    }
+    LEFT
+}
+
+// Two roots are tied, by the whole number below their difference, which spares the first, or by the one
+// above, which spares the second.
+fn tie_roots(
+    m: &[[f64; 15]; 15],
+    notes: &mut [usize; 96],
+    way: &mut [[f64; 34]; 15],
+    columns: &mut [[f64; 15]; 15],
+    vectors: &mut [[f64; 15]; 3],
+    sets: &mut [[usize; 15]; 3],
+    k: usize,
+    state: usize,
+    r: usize,
+    s: usize,
+    first: usize,
+    end: usize,
+) -> usize
+    requires { ⌜ (k < 15) × (r < 15) × (s < 15) × (end ≤ 15) ⌝ }
+{
+    let at_r = columns[r][r] - columns[r][s];
+    let at_s = columns[s][s] - columns[s][r];
+    if !(0.0 < at_r && 0.0 < at_s) {
+        return LEFT;
+    }
+    let per_r = 1.0 / at_r;
+    let per_s = 1.0 / at_s;
+    let sum_r = vectors[SUMS][r];
+    let sum_s = vectors[SUMS][s];
+    let below = whole::fraction(vectors[AT][r] - vectors[AT][s]);
+    let by_r = below * per_r;
+    let by_s = (1.0 - below) * per_s;
+    let loss_r = by_r * sum_r;
+    let loss_s = by_s * sum_s;
+    let costs = [per_r, per_s, sum_r, sum_s];
+    if loss_s < loss_r {
+        return noted(
+            m,
+            notes,
+            way,
+            columns,
+            vectors,
+            sets,
+            k,
+            state,
+            s,
+            r,
+            by_s,
+            by_r,
+            loss_r,
+            costs,
+            first,
+            end,
+        );
+    }
+    noted(
+        m,
+        notes,
+        way,
+        columns,
+        vectors,
+        sets,
+        k,
+        state,
+        r,
+        s,
+        by_r,
+        by_s,
+        loss_s,
+        costs,
+        first,
+        end,
+    )
+}
+
+// The columns and their sums as they are after the first n links of the remembered way.
+fn rebuild(
+    inverse: &[[f64; 15]; 15],
+    notes: &[usize; 96],
+    way: &[[f64; 34]; 15],
+    columns: &mut [[f64; 15]; 15],
+    vectors: &mut [[f64; 15]; 3],
+    n: usize,
+    first: usize,
+    end: usize,
+)
+    requires { ⌜ (n ≤ 15) × (end ≤ 15) ⌝ }
+{
+    let mut marks = sets::alone();
+    let mut k: usize = 0;
+    *columns = *inverse;
+    let sums = matrix::times(inverse, &[1.0f64; 15], first, end);
+    vectors[SUMS] = sums;
+    while k < n {
+        let spared = notes::spared(notes, k);
+        let u = way::answer(way, k);
+        sets::spare(&mut marks, spared);
+        level(
+            columns,
+            vectors,
+            &marks,
+            &u,
+            spared,
+            notes::keeps(notes, k),
+            first,
+            end,
+        );
+        k += 1;
+    }
+}
+
+// Link k is tied.
+fn tie_link(
+    m: &[[f64; 15]; 15],
+    inverse: &[[f64; 15]; 15],
+    notes: &mut [usize; 96],
+    way: &mut [[f64; 34]; 15],
+    columns: &mut [[f64; 15]; 15],
+    vectors: &mut [[f64; 15]; 3],
+    sets: &mut [[usize; 15]; 3],
+    k: usize,
+    state: usize,
+    first: usize,
+    end: usize,
+) -> usize
+    requires { ⌜ (k < 15) × (end ≤ 15) ⌝ }
+{
+    let r = sets::root(sets, notes::one(notes, k));
+    let s = sets::root(sets, notes::other(notes, k));
+    if state != FOLLOWS {
+        return tie_roots(
+            m,
+            notes,
+            way,
+            columns,
+            vectors,
+            sets,
+            k,
+            state,
+            r,
+            s,
+            first,
+            end,
+        );
+    }
+    if k < notes::remembered(notes) {
+        if way::follow(m, notes, way, vectors, sets, k, r, s, first, end) {
+            return FOLLOWS;
         }
-        ways = tie(m, b, ways, p, q, first, end);
-        merge(&mut c, p, q, end);
-        turn += 1;
     }
-    ways
+    rebuild(inverse, notes, way, columns, vectors, k, first, end);
+    tie_roots(
+        m,
+        notes,
+        way,
+        columns,
+        vectors,
+        sets,
+        k,
+        NOTES,
+        r,
+        s,
+        first,
+        end,
+    )
 }
 
-// Once more from the way that was put aside, if it may have led higher.
-fn best(m: &[[f64; 15]; 15], b: &[f64; 16], start: Ties, first: usize, end: usize) -> Ties
+// Link after link.
+fn tie_all(
+    m: &[[f64; 15]; 15],
+    inverse: &[[f64; 15]; 15],
+    notes: &mut [usize; 96],
+    way: &mut [[f64; 34]; 15],
+    vectors: &mut [[f64; 15]; 3],
+    sets: &mut [[usize; 15]; 3],
+    first: usize,
+    end: usize,
+)
     requires { ⌜ end ≤ 15 ⌝ }
 {
-    let ways = grown(m, b, start, first, end);
-    let ties = ways.taken;
-    let at = ties.at;
-    let high = height(&at, end);
-    if ways.height < high + 0.5 {
-        return ties;
+    let links = notes::links(notes);
+    let mut columns = [[0.0f64; 15]; 15];
+    let mut state = FOLLOWS;
+    let mut k: usize = 0;
+    while k < links {
+        state = tie_link(
+            m,
+            inverse,
+            notes,
+            way,
+            &mut columns,
+            vectors,
+            sets,
+            k,
+            state,
+            first,
+            end,
+        );
+        k += 1;
     }
-    let again = grown(m, b, ways.other, first, end);
-    let second = again.taken;
-    let second_at = second.at;
-    if high < height(&second_at, end) {
-        return second;
-    }
-    ties
 }
 
-// Where the nodes x for which m x is b best stand as whole numbers: one that stands for itself is cut
-// downward, and the others follow by their ties.
-pub fn cut(m: &[[f64; 15]; 15], b: &[f64; 16], first: usize, end: usize) -> [f64; 16]
+// A root is cut downward, and the others of its set follow by their ties.
+fn landed(vectors: &[[f64; 15]; 3], sets: &[[usize; 15]; 3], first: usize, end: usize) -> [f64; 15]
     requires { ⌜ end ≤ 15 ⌝ }
 {
-    let none = Ties {
-        to: [0usize; 16],
-        by: [0.0f64; 16],
-        at: [0.0f64; 16],
-    };
-    let ties = best(m, b, solved(m, b, none, first, end), first, end);
-    let to = ties.to;
-    let at = ties.at;
-    let mut whole = [0.0f64; 16];
-    let mut i: usize = 1;
-    while i <= end {
-        let r = root(&to, i);
-        whole[i] = whole::floor(at[r]) + whole::nearest(at[i] - at[r]);
-        i += 1;
+    let mut whole = [0.0f64; 15];
+    let mut k = first;
+    while k < end {
+        let r = sets::root(sets, k);
+        let at = vectors[AT][r];
+        whole[k] = whole::floor(at) + whole::nearest(vectors[AT][k] - at);
+        k += 1;
     }
     whole
+}
+
+// Every node cut downward.
+fn floors(x: [f64; 15], first: usize, end: usize) -> [f64; 15]
+    requires { ⌜ end ≤ 15 ⌝ }
+{
+    let mut whole = x;
+    let mut k = first;
+    while k < end {
+        whole[k] = whole::floor(x[k]);
+        k += 1;
+    }
+    whole
+}
+
+// How far the nodes that have to go by x best go in whole numbers. The links are noted, once for a matrix,
+// and the way that the ties went.
+pub fn cut(
+    m: &[[f64; 15]; 15],
+    inverse: &[[f64; 15]; 15],
+    x: [f64; 15],
+    first: usize,
+    end: usize,
+    notes: &mut [usize; 96],
+    way: &mut [[f64; 34]; 15],
+) -> [f64; 15]
+    requires { ⌜ end ≤ 15 ⌝ }
+{
+    if !notes::links_known(notes) {
+        links::order(m, first, end, notes);
+    }
+    if notes::links(notes) == 0 {
+        return floors(x, first, end);
+    }
+    let none = [0.0f64; 15];
+    let mut vectors = [x, none, none];
+    let mut sets = sets::alone();
+    tie_all(m, inverse, notes, way, &mut vectors, &mut sets, first, end);
+    landed(&vectors, &sets, first, end)
 }

@@ -21,6 +21,12 @@ pub fn floor(x: f64) -> f64 {
     whole
 }
 
+// What x has above the whole number below it.
+pub fn fraction(x: f64) -> f64 {
+    let above = x - floor(x);
+    if above < 0.0 { 0.0 } else { above }
+}
+
 pub fn size(x: f64) -> f64 {
     if x < 0.0 { -x } else { x }
 }

@@ -19,13 +19,13 @@ place-requires c κs =
     (omega (arith, e, n .few-nodes, n .wired .driven-there), omega (arith, s .pre .1 .few), rw e (omega (arith, s .pre .1 .there)), s .pre .2)
 
 propose-requires : tie.Need-propose-requires
-propose-requires c κs = let s = c .before .before .before .before .before in (search needs, c .before .place .ensures .long ∙ s .pre .2)
+propose-requires c κs = let s = c .before .before .before .before .before .before .before .before .before .before in (search needs, c .before .before .before .before .before .before .place .ensures .long ∙ s .pre .2)
 
 returns : tie.Need-returns
 returns c =
-    let s = c .before .before .before .before .before .before in
-    let e = c .before .before .before .before .driven .ensures in
-    let placed : Placed (s .args .drives .now) (drivenOn (s .args .board .now)) (s .args .j) (drivenOn (s .args .board .now)) _ _ = rw e at (c .before .before .place .ensures) in
+    let s = c .before .before .before .before .before .before .before .before .before .before .before in
+    let e = c .before .before .before .before .before .before .before .before .before .driven .ensures in
+    let placed : Placed (s .args .drives .now) (drivenOn (s .args .board .now)) (s .args .j) (drivenOn (s .args .board .now)) _ _ = rw e at (c .before .before .before .before .before .before .before .place .ensures) in
     (λ i h. c .propose .ensures .elsewhere (suc i) (inl (omega (arith, h))) ∙ placed .at i h, c .propose .ensures .long ∙ placed .long ∙ s .pre .2)
 
 pub begin-spec : {M : Type 1} → statement M

@@ -12,7 +12,7 @@ sample-requires c κs = search needs
 
 returns : tie.Need-returns
 returns c =
-    let a = c .before .before .before .before .before .before .before .args in
+    let a = c .before .before .before .before .before .before .before .before .before .before .before .before .args in
     let b = c .before .before .before .begin in
     (sampled-is (a .board .now) (a .stretches .now) (a .drives .now) (a .j) (b .last .1 .1 .1 .1 .1 .0) (a .x .now) (b .ensures .0) (c .sample .ensures .outcome), c .sample .ensures .long ∙ b .ensures .1)
 

@@ -17,10 +17,10 @@ use Rattle.block.proofs.run.run.Statement.{statement}
 use Rattle.block.proofs.run.run.Tie as tie
 
 abbrev Inv-loop : tie.InvT-loop
-Inv-loop board stretches output n drives x₀ volts₀ outputs₀ j₀ x volts outputs j = (j ≤ n) × Run (λ (j : ℕ). networkOn board stretches) output (driveAt drives (drivenOn board)) (stateOf x₀) outputs₀ j (stateOf x) outputs × Playable board stretches x × (length volts ≡ 16)
+Inv-loop board stretches output n drives x₀ volts₀ outputs₀ lines₀ m₀ inverse₀ notes₀ way₀ j₀ x volts outputs lines m inverse notes way j = (j ≤ n) × Run (λ (j : ℕ). networkOn board stretches) output (driveAt drives (drivenOn board)) (stateOf x₀) outputs₀ j (stateOf x) outputs × Playable board stretches x × (length volts ≡ 16)
 
 abbrev μ-loop : tie.MeasureT-loop
-μ-loop board stretches output n drives x₀ volts₀ outputs₀ j₀ x volts outputs j = n - j
+μ-loop board stretches output n drives x₀ volts₀ outputs₀ lines₀ m₀ inverse₀ notes₀ way₀ j₀ x volts outputs lines m inverse notes way j = n - j
 
 loop-holds : tie.Need-loop-holds Inv-loop μ-loop
 loop-holds c =
@@ -29,10 +29,10 @@ loop-holds c =
 
 next-requires : tie.Need-next-requires Inv-loop μ-loop
 next-requires c κs =
-    let l = c .before .before .before .loop in
-    let s = c .before .before .before .before .before .before in
+    let l = c .before .before .before .before .before .before .before .before .loop in
+    let s = c .before .before .before .before .before .before .before .before .before .before .before in
     let a = s .args in
-    (l .inv .2, driven-there (a .board .now) (a .drives .now) (a .outputs .now) (a .output) (a .n) (l .j) (s .pre .1) (c .before .before .loop-test .taken), l .inv .3)
+    (l .inv .2, driven-there (a .board .now) (a .drives .now) (a .outputs .now) (a .output) (a .n) (l .j) (s .pre .1) (c .before .before .before .before .before .before .before .loop-test .taken), l .inv .3)
 
 value-requires : tie.Need-value-requires Inv-loop μ-loop
 value-requires c κs = search needs
@@ -48,15 +48,15 @@ mul-result : tie.Need-mul-result Inv-loop μ-loop
 mul-result c = record { fits = omega (arith, c .before .value .ensures, number-small (c .before .before .next .result)) }
 
 add-result : tie.Need-add-result Inv-loop μ-loop
-add-result c = record { fits = omega (arith, c .before .value .ensures, number-small (c .before .before .next .result), c .before .before .before .before .before .before .before .before .before .pre .1 .few, c .before .before .before .before .before .loop-test .taken) }
+add-result c = record { fits = omega (arith, c .before .value .ensures, number-small (c .before .before .next .result), c .before .before .before .before .before .before .before .before .before .before .before .before .before .before .pre .1 .few, c .before .before .before .before .before .before .before .before .before .before .loop-test .taken) }
 
 same-length : tie.Need-same-length Inv-loop μ-loop
-same-length c = run-length (c .before .before .before .before .before .before .loop .inv .1)
+same-length c = run-length (c .before .before .before .before .before .before .before .before .before .before .before .loop .inv .1)
 
 returns : tie.Need-returns Inv-loop μ-loop
 returns c =
     let q = refused-is (c .before .before .next .ensures .0) (some c) in
-    rw (c .before .value .ensures) (run-short (c .before .before .before .before .before .before .loop .inv .1) (c .before .before .before .before .before .loop-test .taken) q)
+    rw (c .before .value .ensures) (run-short (c .before .before .before .before .before .before .before .before .before .before .before .loop .inv .1) (c .before .before .before .before .before .before .before .before .before .before .loop-test .taken) q)
 
 mul-put-i32 : tie.Need-mul-put-i32 Inv-loop μ-loop
 mul-put-i32 c = search needs
@@ -69,8 +69,8 @@ element-copy-out-put-i32 c = search needs
 
 put-i32-requires : tie.Need-put-i32-requires Inv-loop μ-loop
 put-i32-requires c κs =
-    let l = c .before .before .before .before .before .before .before .before .loop in
-    omega (arith, run-length (l .inv .1), c .before .before .before .before .before .before .before .before .before .before .before .pre .1 .room, c .before .before .before .before .before .before .before .loop-test .taken)
+    let l = c .before .before .before .before .before .before .before .before .before .before .before .before .before .loop in
+    omega (arith, run-length (l .inv .1), c .before .before .before .before .before .before .before .before .before .before .before .before .before .before .before .before .pre .1 .room, c .before .before .before .before .before .before .before .before .before .before .before .before .loop-test .taken)
 
 add-j : tie.Need-add-j Inv-loop μ-loop
 add-j c = search needs
@@ -82,12 +82,12 @@ loop-again : tie.Need-loop-again Inv-loop μ-loop
 loop-again c =
     let e = c .before .before .before .before .before in
     let n = e .before .before in
-    let l = n .before .before .before .before .loop in
+    let l = n .before .before .before .before .before .before .before .before .before .loop in
     let v = n .next .last .1 .1 .1 .1 .1 .0 in
-    let z = reading v (n .before .before .before .before .before .before .before .args .output) in
+    let z = reading v (n .before .before .before .before .before .before .before .before .before .before .before .before .args .output) in
     let f : toZ w64 (ofZ w64 z) ≡ z = search needs in
     let q = passed-is (n .next .ensures .0) (none e) in
-    (omega (arith, n .before .before .before .loop-test .taken), rw ((rw f at (c .before .before .put-i32 .ensures))) (run-more (l .inv .1) q), playable-on (l .inv .2) q, n .next .ensures .1)
+    (omega (arith, n .before .before .before .before .before .before .before .before .loop-test .taken), rw ((rw f at (c .before .before .put-i32 .ensures))) (run-more (l .inv .1) q), playable-on (l .inv .2) q, n .next .ensures .1)
 
 same-length-2 : tie.Need-same-length-2 Inv-loop μ-loop
 same-length-2 c = run-length (c .before .loop .inv .1)

@@ -4,19 +4,16 @@ use Rattle.guess.proofs.newton.largest.Statement.{statement}
 use Rattle.guess.proofs.newton.largest.Tie as tie
 
 abbrev Inv-loop : tie.InvT-loop
-Inv-loop board nets nodes most₀ i₀ most i = (nodes ≤ 15) × (i ≤ 16)
+Inv-loop board nets nodes most₀ k₀ most k = (nodes ≤ 15)
 
 abbrev μ-loop : tie.MeasureT-loop
-μ-loop board nets nodes most₀ i₀ most i = 16 - i
+μ-loop board nets nodes most₀ k₀ most k = nodes - k
 
 nodes-requires : tie.Need-nodes-requires Inv-loop μ-loop
 nodes-requires c κs = search needs
 
 driven-requires : tie.Need-driven-requires Inv-loop μ-loop
 driven-requires c κs = search needs
-
-add-i : tie.Need-add-i Inv-loop μ-loop
-add-i c = search needs
 
 loop-holds : tie.Need-loop-holds Inv-loop μ-loop
 loop-holds c = search needs
@@ -33,8 +30,8 @@ size-requires c κs = search needs
 larger-requires : tie.Need-larger-requires Inv-loop μ-loop
 larger-requires c κs = search needs
 
-add-i-2 : tie.Need-add-i-2 Inv-loop μ-loop
-add-i-2 c = search needs
+add-k : tie.Need-add-k Inv-loop μ-loop
+add-k c = search needs
 
 loop-less : tie.Need-loop-less Inv-loop μ-loop
 loop-less c = search needs
@@ -53,13 +50,12 @@ largest-spec =
     μ-loop
     nodes-requires
     driven-requires
-    add-i
     loop-holds
     mul-size
     array-read-size
     size-requires
     larger-requires
-    add-i-2
+    add-k
     loop-less
     loop-again
     returns)

@@ -7,8 +7,8 @@ copied-requires c κs = search needs
 
 search-requires : tie.Need-search-requires
 search-requires c κs =
-    let s = c .before .before in
-    let k = c .before .copied .ensures in
+    let s = c .before .before .before .before .before .before .before in
+    let k = c .before .before .before .before .before .before .copied .ensures in
     (rw (k .0) (s .pre .0), rw (k .0) (record { long = k .1; ranged = s .pre .0 .ranged }))
 
 enum-known-left : tie.Need-enum-known-left

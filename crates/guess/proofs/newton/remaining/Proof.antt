@@ -1,19 +1,73 @@
-use Rattle.guess.proofs.PlaceLaws.{in-places}
+use Prim.Native.Nat.{_-_, _≤_}
 use borrow.Author.Needs.{needs}
 use Rattle.guess.proofs.newton.remaining.Statement.{statement}
 use Rattle.guess.proofs.newton.remaining.Tie as tie
 
-retaken-requires : tie.Need-retaken-requires
-retaken-requires c κs = search needs
+abbrev Inv-loop : tie.InvT-loop
+Inv-loop board stretches stored volts exact nodes left₀ k₀ left k = nodes ≤ 15
 
-entering-requires : tie.Need-entering-requires
-entering-requires c κs = in-places _ _ (c .before .before .before .pre .0)
+abbrev μ-loop : tie.MeasureT-loop
+μ-loop board stretches stored volts exact nodes left₀ k₀ left k = nodes - k
 
-largest-requires : tie.Need-largest-requires
-largest-requires c κs = search needs
+taken-requires : tie.Need-taken-requires Inv-loop μ-loop
+taken-requires c κs = search needs
 
-returns : tie.Need-returns
+nodes-requires : tie.Need-nodes-requires Inv-loop μ-loop
+nodes-requires c κs = search needs
+
+driven-requires : tie.Need-driven-requires Inv-loop μ-loop
+driven-requires c κs = search needs
+
+loop-holds : tie.Need-loop-holds Inv-loop μ-loop
+loop-holds c = search needs
+
+add-nearest-i64-to-f64 : tie.Need-add-nearest-i64-to-f64 Inv-loop μ-loop
+add-nearest-i64-to-f64 c = search needs
+
+mul-nearest-i64-to-f64 : tie.Need-mul-nearest-i64-to-f64 Inv-loop μ-loop
+mul-nearest-i64-to-f64 c = search needs
+
+array-copy-out-nearest-i64-to-f64 : tie.Need-array-copy-out-nearest-i64-to-f64 Inv-loop μ-loop
+array-copy-out-nearest-i64-to-f64 c = search needs
+
+nearest-i64-to-f64-requires : tie.Need-nearest-i64-to-f64-requires Inv-loop μ-loop
+nearest-i64-to-f64-requires c κs = search needs
+
+mul-left : tie.Need-mul-left Inv-loop μ-loop
+mul-left c = search needs
+
+array-write-left : tie.Need-array-write-left Inv-loop μ-loop
+array-write-left c = search needs
+
+add-k : tie.Need-add-k Inv-loop μ-loop
+add-k c = search needs
+
+loop-less : tie.Need-loop-less Inv-loop μ-loop
+loop-less c = search needs
+
+loop-again : tie.Need-loop-again Inv-loop μ-loop
+loop-again c = search needs
+
+returns : tie.Need-returns Inv-loop μ-loop
 returns c = search needs
 
 pub remaining-spec : {M : Type 1} → statement M
-remaining-spec = tie.close (tie.spec retaken-requires entering-requires largest-requires returns)
+remaining-spec =
+    tie.close
+    (tie.spec
+    Inv-loop
+    μ-loop
+    taken-requires
+    nodes-requires
+    driven-requires
+    loop-holds
+    add-nearest-i64-to-f64
+    mul-nearest-i64-to-f64
+    array-copy-out-nearest-i64-to-f64
+    nearest-i64-to-f64-requires
+    mul-left
+    array-write-left
+    add-k
+    loop-less
+    loop-again
+    returns)

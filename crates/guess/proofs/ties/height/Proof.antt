@@ -1,13 +1,13 @@
-use Prim.Native.Nat.{suc, _≤_, _-_}
+use Prim.Native.Nat.{_-_, _≤_}
 use borrow.Author.Needs.{needs}
 use Rattle.guess.proofs.ties.height.Statement.{statement}
 use Rattle.guess.proofs.ties.height.Tie as tie
 
 abbrev Inv-loop : tie.InvT-loop
-Inv-loop at end sum₀ i₀ sum i = 0 ≤ i
+Inv-loop vectors first end sum₀ k₀ sum k = 0 ≤ k
 
 abbrev μ-loop : tie.MeasureT-loop
-μ-loop at end sum₀ i₀ sum i = suc end - i
+μ-loop vectors first end sum₀ k₀ sum k = end - k
 
 loop-holds : tie.Need-loop-holds Inv-loop μ-loop
 loop-holds c = search needs
@@ -15,11 +15,14 @@ loop-holds c = search needs
 mul-sum : tie.Need-mul-sum Inv-loop μ-loop
 mul-sum c = search needs
 
-element-copy-out-sum : tie.Need-element-copy-out-sum Inv-loop μ-loop
-element-copy-out-sum c = search needs
+index-1-sum : tie.Need-index-1-sum Inv-loop μ-loop
+index-1-sum c = search needs
 
-add-i : tie.Need-add-i Inv-loop μ-loop
-add-i c = search needs
+index-2-sum : tie.Need-index-2-sum Inv-loop μ-loop
+index-2-sum c = search needs
+
+add-k : tie.Need-add-k Inv-loop μ-loop
+add-k c = search needs
 
 loop-less : tie.Need-loop-less Inv-loop μ-loop
 loop-less c = search needs
@@ -38,8 +41,9 @@ height-spec =
     μ-loop
     loop-holds
     mul-sum
-    element-copy-out-sum
-    add-i
+    index-1-sum
+    index-2-sum
+    add-k
     loop-less
     loop-again
     returns)

@@ -1,61 +1,19 @@
-use Prim.Native.Nat.{_≤_, _-_}
+use Prim.Native.Nat.{_-_, _≤_}
 use borrow.Author.Needs.{needs}
 use Rattle.guess.proofs.ties.strained.Statement.{statement}
 use Rattle.guess.proofs.ties.strained.Tie as tie
 
 abbrev Inv-loop : tie.InvT-loop
-Inv-loop m b to at first end sums k₀ k = 0 ≤ k
+Inv-loop m vectors sets y by first end k₀ k = 0 ≤ k
 
 abbrev μ-loop : tie.MeasureT-loop
-μ-loop m b to at first end sums k₀ k = end - k
-
-currents-requires : tie.Need-currents-requires Inv-loop μ-loop
-currents-requires c κs = search needs
+μ-loop m vectors sets y by first end k₀ k = end - k
 
 loop-holds : tie.Need-loop-holds Inv-loop μ-loop
 loop-holds c = search needs
 
-add-if1 : tie.Need-add-if1 Inv-loop μ-loop
-add-if1 c = search needs
-
-mul-if1 : tie.Need-mul-if1 Inv-loop μ-loop
-mul-if1 c = search needs
-
-element-copy-out-if1 : tie.Need-element-copy-out-if1 Inv-loop μ-loop
-element-copy-out-if1 c = search needs
-
-mul-if2 : tie.Need-mul-if2 Inv-loop μ-loop
-mul-if2 c = search needs
-
-mul-if2-2 : tie.Need-mul-if2-2 Inv-loop μ-loop
-mul-if2-2 c = search needs
-
-index-1-if2 : tie.Need-index-1-if2 Inv-loop μ-loop
-index-1-if2 c = search needs
-
-index-2-if2 : tie.Need-index-2-if2 Inv-loop μ-loop
-index-2-if2 c = search needs
-
-add-if2 : tie.Need-add-if2 Inv-loop μ-loop
-add-if2 c = search needs
-
-mul-if2-3 : tie.Need-mul-if2-3 Inv-loop μ-loop
-mul-if2-3 c = search needs
-
-array-read-if2 : tie.Need-array-read-if2 Inv-loop μ-loop
-array-read-if2 c = search needs
-
-add-if2-2 : tie.Need-add-if2-2 Inv-loop μ-loop
-add-if2-2 c = search needs
-
-mul-if2-4 : tie.Need-mul-if2-4 Inv-loop μ-loop
-mul-if2-4 c = search needs
-
-element-copy-out-if2 : tie.Need-element-copy-out-if2 Inv-loop μ-loop
-element-copy-out-if2 c = search needs
-
-add-result : tie.Need-add-result Inv-loop μ-loop
-add-result c = search needs
+strains-requires : tie.Need-strains-requires Inv-loop μ-loop
+strains-requires c κs = search needs
 
 returns : tie.Need-returns Inv-loop μ-loop
 returns c = search needs
@@ -78,22 +36,8 @@ strained-spec =
     (tie.spec
     Inv-loop
     μ-loop
-    currents-requires
     loop-holds
-    add-if1
-    mul-if1
-    element-copy-out-if1
-    mul-if2
-    mul-if2-2
-    index-1-if2
-    index-2-if2
-    add-if2
-    mul-if2-3
-    array-read-if2
-    add-if2-2
-    mul-if2-4
-    element-copy-out-if2
-    add-result
+    strains-requires
     returns
     add-k
     loop-less
