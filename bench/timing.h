@@ -33,7 +33,7 @@ static double run(void (*render)(void *), void *circuit)
 }
 
 /* The median of so many runs. */
-static double median(size_t runs, void (*render)(void *), void *circuit)
+static inline double median(size_t runs, void (*render)(void *), void *circuit)
 {
     double *seconds = malloc(runs * sizeof *seconds);
     if (!seconds)

@@ -1,18 +1,18 @@
-"""instrument.py count IN.ll OUT.ll: a module of the block that counts the net currents it takes.
+"""instrument.py count IN.ll OUT.ll: a module of the block that counts the moves of a node that the search makes.
 instrument.py open IN.ll OUT.ll: a module of the block whose net current can be called from outside.
 
-To count, it adds one to bench_evaluations at the entry of circuit::node::net_current, and calls bench_sample at the entry of solve::sample::sample;
+To count, it adds one to bench_moves at the entry of circuit::nets::move_to, and calls bench_sample at the entry of solve::sample::sample;
 host.c has both. To lay it open, bench_net calls circuit::node::net_current, and bench_lent is called at the entry of solve::sample::sample with what
-a sample is lent; net.c has the other side. It is done before anything is inlined, so that no evaluation gets away.
+a sample is lent; net.c has the other side. It is done before anything is inlined, so that no move gets away.
 """
 
 import pathlib
 import re
 import sys
 
-COUNTED = """  %bench.old = load i64, ptr @bench_evaluations
+COUNTED = """  %bench.old = load i64, ptr @bench_moves
   %bench.new = add i64 %bench.old, 1
-  store i64 %bench.new, ptr @bench_evaluations
+  store i64 %bench.new, ptr @bench_moves
 """
 MARKED = "  call void @bench_sample()\n"
 # The sample's first parameter is where its number goes.
@@ -23,14 +23,14 @@ define i64 @bench_net(ptr %board, ptr %stretches, ptr %stored, ptr %volts, i64 %
   ret i64 %net
 }
 """
-NET, SAMPLE = "circuit::node::net_current", "solve::sample::sample"
+NET, MOVE, SAMPLE = "circuit::node::net_current", "circuit::nets::move_to", "solve::sample::sample"
 # The types of their parameters: another module's may take something else, and a call of the wrong types would go unseen.
-PARAMETERS = {NET: ["ptr"] * 4 + ["i64"], SAMPLE: ["ptr"] * 5}
+PARAMETERS = {NET: ["ptr"] * 4 + ["i64"], MOVE: ["ptr"] * 3 + ["i64"] * 2 + ["ptr"] * 2, SAMPLE: ["ptr"] * 5}
 # For each way, the lines at the entry of both functions, and what comes with them.
 WAYS = {
     "count": (
-        {NET: COUNTED, SAMPLE: MARKED},
-        "\n@bench_evaluations = external global i64\ndeclare void @bench_sample()\n",
+        {MOVE: COUNTED, SAMPLE: MARKED},
+        "\n@bench_moves = external global i64\ndeclare void @bench_sample()\n",
     ),
     "open": ({NET: "", SAMPLE: LENT}, f"{OPENED}\ndeclare void @bench_lent(ptr, ptr, ptr, ptr)\n"),
 }

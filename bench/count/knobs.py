@@ -30,9 +30,9 @@ def main():
         (time,) = table.said(table.BENCH / "time", "--time", 1, *files)
         costs.append((time, most, mean, name))
     time, most, mean, name = max(costs)
-    print(f"{len(costs)} positions; the slowest takes {time:,.0f} ns a sample, {mean:,.1f} evaluations ({most:,.0f}): {name}")
+    print(f"{len(costs)} positions; the slowest takes {time:,.0f} ns a sample, {mean:,.1f} moves ({most:,.0f}): {name}")
     time, most, mean, name = max(costs, key=lambda cost: cost[1])
-    print(f"the most evaluations in a sample are {most:,.0f}: {name}")
+    print(f"the most moves in a sample are {most:,.0f}: {name}")
 
 
 if __name__ == "__main__":

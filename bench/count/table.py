@@ -59,6 +59,15 @@ def columns(times):
     return [*cells, f"{times[1] / times[0]:.2f}"] if len(times) == 2 else cells
 
 
+FLOAT_HEADS = ["f64: ns a sample", "f64 that keeps: ns a sample", "ours / f64", "ours / keeping"]
+
+
+def floats(ours, runs, *words):
+    """The cells of both f64 simulators' times beside ours: the textbook's, and that of the one that keeps its inverse."""
+    textbook, keeping = (said(BENCH / "float", *way, "--time", runs, *words)[0] for way in ([], ["--kept"]))
+    return f"{textbook:,.0f}", f"{keeping:,.0f}", f"{ours / textbook:,.1f}", f"{ours / keeping:,.1f}"
+
+
 def cells(name, build, runs, before):
     files = written(build)
     free = build.fields["nodes"] - build.fields["drives"]
@@ -66,14 +75,13 @@ def cells(name, build, runs, before):
     yield from (name.replace("_", " "), f"{free}", f"{len(build.elements)}", f"{build.samples:,}", f"{mean:,.1f}", f"{greatest:,.0f}")
     if runs:
         taken = times("time", ["--time", runs, *files], before)
-        (floats,), ours = said(BENCH / "float", "--time", runs, *files), taken[-1]
-        yield from (*columns(taken), f"{1e9 / RATE / ours:,.3g}", f"{floats:,.0f}", f"{ours / floats:,.1f}")
+        yield from (*columns(taken), f"{1e9 / RATE / taken[-1]:,.3g}", *floats(taken[-1], runs, *files))
 
 
 def main(path, runs, before):
-    names = ["circuit", "free nodes", "elements", "samples", "evaluations, mean", "most"]
+    names = ["circuit", "free nodes", "elements", "samples", "moves, mean", "most"]
     if runs:
-        names += [*heads("sample", before), "times real time at 48 kHz", "f64: ns a sample", "ours / f64"]
+        names += [*heads("sample", before), "times real time at 48 kHz", *FLOAT_HEADS]
     for row in names, ["---"] * len(names):
         print(f"| {' | '.join(row)} |", flush=True)
     for name, build in builds(path).items():

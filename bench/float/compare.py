@@ -1,4 +1,5 @@
-"""Holds the f64 simulator against the second program's lines: compare.py PROGRAM prints the largest distance in each real circuit.
+"""Holds the f64 simulator against the second program's lines: compare.py PROGRAM prints the largest distance in each real circuit, and how far the
+simulator that keeps its inverse is from the textbook's, which rounding alone may make.
 
 Whole microvolts are cut downward at each node and the cut is stored, so the two drift apart by up to some millivolts. Across stiff links,
 where a knob at its end leaves 1 ohm, whole microvolts cannot follow the real circuit, and the distance is shown but not judged.
@@ -13,14 +14,17 @@ sys.path.insert(0, str(CASES))
 import cases
 
 STIFF = {"stiff_link", "tone_treble_0", "tone_treble_1", "tone_volume_1", "tone_all_1"}
-LIMIT = 6000
+LIMIT, ROUNDING = 6000, 0.01
 
 
-def distance(program, name, lines):
+def volts(program, name, *words):
     files = [cases.DATA / f"{name}.{kind}" for kind in ("image", "drives")]
-    run = subprocess.run([program, *files], stdout=subprocess.PIPE, text=True, check=True)
-    whole = lines.decode().splitlines()[:-1]
-    return max(abs(float(one) - int(other)) for one, other in zip(run.stdout.split(), whole, strict=True))
+    run = subprocess.run([program, *words, *files], stdout=subprocess.PIPE, text=True, check=True)
+    return [float(line) for line in run.stdout.split()]
+
+
+def distance(one, other):
+    return max(abs(a - b) for a, b in zip(one, other, strict=True))
 
 
 def main(program):
@@ -28,10 +32,12 @@ def main(program):
     lines = cases.expected()
     failed = False
     for name in (line.split()[1] for line in circuits if line.startswith("case ")):
-        apart = distance(program, name, lines[name])
+        textbook = volts(program, name)
+        apart = distance(textbook, [int(line) for line in lines[name].splitlines()[:-1]])
+        rounded = distance(textbook, volts(program, name, "--kept"))
         judged = name not in STIFF
-        failed |= judged and apart > LIMIT
-        print(f"{name:24} {apart:12.1f} microvolts{'' if judged else '   stiff'}")
+        failed |= judged and apart > LIMIT or rounded > ROUNDING
+        print(f"{name:24} {apart:12.1f} microvolts, kept {rounded:.6f}{'' if judged else '   stiff'}")
     return 1 if failed else 0
 
 

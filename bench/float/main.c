@@ -1,5 +1,8 @@
-/* float IMAGE DRIVES: the output node's voltage in microvolts, one line per sample.
-   float --time RUNS IMAGE DRIVES: nanoseconds per sample, the median of RUNS runs, each of at least a tenth of a second. */
+/* float [--kept] IMAGE DRIVES: the output node's voltage in microvolts, one line per sample.
+   float [--kept] --time RUNS [--block N] IMAGE DRIVES: nanoseconds per sample, the median of RUNS runs, each of at least a tenth of a second; in blocks of N
+   samples, or in a single one.
+
+   --kept eliminates only where the matrix has changed, in place of each round of Newton. */
 #include "../timing.h"
 #include "simulate.h"
 
@@ -30,25 +33,45 @@ static uint8_t *contents(const char *name, size_t *length)
 struct rendering {
     const struct circuit *circuit;
     const double *drives;
-    size_t samples;
+    size_t samples, block;
     double *outputs;
+    enum way way;
 };
 
 static void render(void *what)
 {
     const struct rendering *r = what;
     struct simulation simulation;
-    simulation_start(&simulation, r->circuit);
-    simulate(&simulation, r->drives, r->samples, r->outputs);
+    simulation_start(&simulation, r->circuit, r->way);
+    for (size_t done = 0; done < r->samples; done += r->block) {
+        size_t left = r->samples - done;
+        simulate(&simulation, r->drives + done * (size_t)r->circuit->driven, left < r->block ? left : r->block, r->outputs + done);
+    }
+}
+
+static int usage(void)
+{
+    fprintf(stderr, "float [--kept] [--time RUNS [--block N]] IMAGE DRIVES\n");
+    return 1;
 }
 
 int main(int count, char **words)
 {
-    long runs = count == 5 && strcmp(words[1], "--time") == 0 ? atol(words[2]) : 0;
-    if (count != 3 && runs < 1) {
-        fprintf(stderr, "float [--time RUNS] IMAGE DRIVES\n");
-        return 1;
+    enum way way = TEXTBOOK;
+    long runs = 0, block = 0;
+    int at = 1;
+    for (; at < count - 2; at++) {
+        if (strcmp(words[at], "--kept") == 0)
+            way = KEPT;
+        else if (strcmp(words[at], "--time") == 0 && (runs = atol(words[at + 1])) > 0)
+            at++;
+        else if (strcmp(words[at], "--block") == 0 && (block = atol(words[at + 1])) > 0)
+            at++;
+        else
+            return usage();
     }
+    if (at != count - 2)
+        return usage();
     size_t image_length, drives_length;
     uint8_t *image = contents(words[count - 2], &image_length), *bytes = contents(words[count - 1], &drives_length);
     struct circuit circuit;
@@ -62,12 +85,12 @@ int main(int count, char **words)
     }
 
     if (runs > 0 && samples > 0) {
-        struct rendering rendering = {&circuit, drives, samples, outputs};
+        struct rendering rendering = {&circuit, drives, samples, block ? (size_t)block : samples, outputs, way};
         printf("%.1f ns per sample\n", 1e9 * median((size_t)runs, render, &rendering) / (double)samples);
         return 0;
     }
     struct simulation simulation;
-    simulation_start(&simulation, &circuit);
+    simulation_start(&simulation, &circuit, way);
     long restless = simulate(&simulation, drives, samples, outputs);
     for (size_t i = 0; i < samples; i++)
         printf("%.6f\n", outputs[i]);

@@ -24,9 +24,10 @@ static void stamp(double matrix[][ROW], int p, int q, double conductance)
 }
 
 /* All that no sample changes: the matrix of resistors and companions, and what one microvolt at a driven node feeds to each row. */
-void simulation_start(struct simulation *simulation, const struct circuit *circuit)
+void simulation_start(struct simulation *simulation, const struct circuit *circuit, enum way way)
 {
     memset(simulation, 0, sizeof *simulation);
+    simulation->way = way;
     simulation->driven = circuit->driven;
     simulation->output = circuit->output;
     simulation->free = circuit->nodes - circuit->driven;
@@ -118,29 +119,97 @@ static void stamp_diodes(struct simulation *simulation, const double *known, dou
     }
 }
 
+/* Copies the matrix of resistors and companions. */
+static void copied(const struct simulation *simulation, double matrix[][ROW])
+{
+    for (int i = 0; i < simulation->free; i++)
+        for (int j = 0; j < simulation->width; j += LANES)
+            for (int lane = 0; lane < LANES; lane++)
+                matrix[i][j + lane] = simulation->matrix[i][j + lane];
+}
+
+/* The free nodes take their next voltages: how far the one goes that goes farthest. */
+static double moved(struct simulation *simulation, const double *next)
+{
+    double *node = simulation->node + simulation->driven + 1, most = 0;
+    for (int i = 0; i < simulation->free; i++) {
+        double by = fabs(next[i] - node[i]);
+        most = by > most ? by : most;
+        node[i] = next[i];
+    }
+    return most;
+}
+
 /* Newton from the last sample's voltages until no node moves by a nanovolt. Without diodes the first round is exact. `known` has the
    drives and zero for free nodes; `right` is the right side without the diodes. */
 static int newton(struct simulation *simulation, const double *known, const double *right)
 {
-    int n = simulation->free, width = simulation->width;
-    double *node = simulation->node + simulation->driven + 1;
+    int n = simulation->free;
     for (int round = 0; round < MOST_ROUNDS; round++) {
         double matrix[MOST_NODES][ROW], next[MOST_NODES];
-        for (int i = 0; i < n; i++) {
-            for (int j = 0; j < width; j += LANES)
-                for (int lane = 0; lane < LANES; lane++)
-                    matrix[i][j + lane] = simulation->matrix[i][j + lane];
+        copied(simulation, matrix);
+        for (int i = 0; i < n; i++)
             matrix[i][n] = right[i];
-        }
         stamp_diodes(simulation, known, matrix);
-        solve(n, width, matrix, next);
-        double moved = 0;
-        for (int i = 0; i < n; i++) {
-            double by = fabs(next[i] - node[i]);
-            moved = by > moved ? by : moved;
-            node[i] = next[i];
-        }
-        if (moved < REST || simulation->diodes == 0)
+        solve(n, simulation->width, matrix, next);
+        if (moved(simulation, next) < REST || simulation->diodes == 0)
+            return 1;
+    }
+    return 0;
+}
+
+/* Finds each diode's stretch at the present voltages: whether any is another than before. */
+static int other_stretches(struct simulation *simulation)
+{
+    int other = 0;
+    for (int i = 0; i < simulation->diodes; i++) {
+        struct diode *diode = &simulation->diode[i];
+        int j = stretch(diode, simulation->node[diode->p] - simulation->node[diode->q]);
+        other |= j != diode->stretch;
+        diode->stretch = j;
+    }
+    return other;
+}
+
+/* Inverts the matrix with each diode on its stretch. */
+static void invert_anew(struct simulation *simulation)
+{
+    copied(simulation, simulation->inverse);
+    for (int i = 0; i < simulation->diodes; i++) {
+        const struct diode *diode = &simulation->diode[i];
+        stamp(simulation->inverse, diode->row_p, diode->row_q, diode->curve->slope[diode->stretch]);
+    }
+    invert(simulation->free, simulation->width, simulation->inverse);
+    simulation->inverted = 1;
+}
+
+/* Adds to the right side what the diodes' tangents feed in, as stamp_diodes does. */
+static void feed_diodes(const struct simulation *simulation, const double *known, double *right)
+{
+    for (int i = 0; i < simulation->diodes; i++) {
+        const struct diode *diode = &simulation->diode[i];
+        double slope = diode->curve->slope[diode->stretch], at_zero = diode->curve->at_zero[diode->stretch];
+        if (diode->row_p != NO_ROW)
+            right[diode->row_p] += slope * known[diode->q] - at_zero;
+        if (diode->row_q != NO_ROW)
+            right[diode->row_q] += slope * known[diode->p] + at_zero;
+    }
+}
+
+/* The same search with the last round's inverse, while no diode has left its stretch. A round on the stretches of the one before would only come to
+   the same voltages again, so it is left out. */
+static int newton_kept(struct simulation *simulation, const double *known, const double *right)
+{
+    for (int round = 0; round < MOST_ROUNDS; round++) {
+        double all[MOST_NODES], next[ROW];
+        if (other_stretches(simulation) || !simulation->inverted)
+            invert_anew(simulation);
+        else if (round > 0)
+            return 1;
+        memcpy(all, right, sizeof all);
+        feed_diodes(simulation, known, all);
+        times(simulation->free, simulation->width, simulation->inverse, all, next);
+        if (moved(simulation, next) < REST || simulation->diodes == 0)
             return 1;
     }
     return 0;
@@ -172,7 +241,7 @@ long simulate(struct simulation *simulation, const double *drives, size_t sample
         for (int d = 1; d <= driven; d++)
             known[d] = node[d] = *drives++;
         right_side(simulation, known, right);
-        restless += !newton(simulation, known, right);
+        restless += !(simulation->way == KEPT ? newton_kept : newton)(simulation, known, right);
         for (int i = 0; i < simulation->stores; i++) {
             struct store *store = &simulation->store[i];
             store->stored = store->sign * (2 * store->conductance * (node[store->p] - node[store->q]) - store->stored);

@@ -1,11 +1,14 @@
-/* Companion models and Newton in f64: the simulator that a user would write. */
+/* Companion models and Newton in f64: the simulator that a user would write, and the one that a user would write next. */
 #ifndef SIMULATE_H
 #define SIMULATE_H
 
 #include "circuit.h"
+#include "inverse.h"
 
-/* A row of the system: its matrix, then its right side, padded to whole vectors of LANES. */
-enum { LANES = 4, ROW = MOST_NODES + 1, NO_ROW = -1 };
+enum { NO_ROW = -1 };
+
+/* Textbook: each round of Newton eliminates. Kept: the matrix's inverse stays while the matrix does. */
+enum way { TEXTBOOK, KEPT };
 
 /* An element that stores: its current is conductance * v - stored. */
 struct store {
@@ -32,9 +35,13 @@ struct simulation {
     double node[MOST_NODES + 1];
     double matrix[MOST_NODES][ROW];
     double from_driven[MOST_NODES][MOST_NODES];
+    enum way way;
+    /* With KEPT: of the matrix with each diode on the stretch that it is on, once there is one. */
+    int inverted;
+    double inverse[MOST_NODES][ROW];
 };
 
-void simulation_start(struct simulation *simulation, const struct circuit *circuit);
+void simulation_start(struct simulation *simulation, const struct circuit *circuit, enum way way);
 
 /* Plays drives, sample by sample nodes 1 to d in turn, to outputs. Gives the number of samples where Newton did not come to rest. */
 long simulate(struct simulation *simulation, const double *drives, size_t samples, double *outputs);
