@@ -19,7 +19,7 @@ ghost use Rattle.solve.specs.Search.{Searching};
 ghost use Rattle.solve.specs.Climb.{Further, Topped};
 
 // So many turns go as far as the lines say.
-const TURNS: u64 = 64;
+const TURNS: u64 = 1024;
 
 // How far the nodes that rose may go on, by a node that rose from v to s: its net current was `before`
 // and is `after`, both not above zero. At most t.
