@@ -1,4 +1,4 @@
--- What an end's element carries more once the node at that end is moved, and the net currents that a walk over a moved node's ends keeps. Assumes nothing.
+-- What an element carries more at another voltage and once the node at an end of it is moved, and the net currents that a walk over a moved node's ends keeps. Assumes nothing.
 use mathlib.Core.Path.{_≡_, refl, sym, _∙_, ap}
 use mathlib.Core.Bool.{Bool, true, false, cond}
 use mathlib.Core.List.{List}
@@ -13,19 +13,37 @@ use lib.Seq.{getD-set-same, getD-set-other}
 use borrow.Author.Tests.{eqb-true, eqb-false}
 use Rattle.units.specs.Integer.{sum}
 use Rattle.units.specs.Voltage.{voltageLimit, Within, InRange}
-use Rattle.units.proofs.Integers.{signs, decideN, add-law, sub-law, neg-law, pos-law, scale-sub}
+use Rattle.units.proofs.Integers.{signs, decideN, add-law, sub-law, neg-law, scale-sub}
 use Rattle.units.proofs.Sizes.{abs-sub, abs-mul, sum-more}
-use Rattle.network.specs.Network.{Network, pick, reading, current, leaving, net, branchLimit, leakLimit, breakpointLimit, currentBound}
+use Rattle.network.specs.Network.{Network, pick, reading, current, leaving, net, branchLimit, leakLimit, conductanceLimit, breakpointLimit, currentBound}
 use Rattle.network.proofs.Ranges.{difference-fits, partial-sum-small}
-use Rattle.network.specs.Kind.{hasCurve}
 use Rattle.network.specs.Move.{Still, moreBy, partMoved}
 use Rattle.network.proofs.Moves.{more-other, more-elsewhere, moved-none, moved-more, moved-all, moved-small, more-small}
-use Rattle.circuit.specs.Stretch.{curveCurrent}
-use Rattle.circuit.specs.Board.{leakOn, nodesOn, countOn, kindOn, pOn, qOn, conductanceOn, firstOn, breakpointsOn, startOn, endOn, branchOn, networkOn, Laid, Ranged, Evaluable, acrossOn, flowOn, nodeOn, otherOn, leavingOn}
-use Rattle.circuit.specs.Nets.{Leaked, Netted, Moved, Spread, curvedMore}
-use Rattle.circuit.proofs.BoardLaws.{few-nodes, few-elements, p-node, q-node, other-node, curve-current, conductance-current, flow-fits}
+use Rattle.circuit.specs.Board.{leakOn, nodesOn, countOn, pOn, qOn, startOn, endOn, branchOn, networkOn, Laid, Ranged, Evaluable, acrossOn, flowOn, nodeOn, otherOn, leavingOn}
+use Rattle.circuit.specs.Nets.{Leaked, Netted, Moved, Spread}
+use Rattle.circuit.proofs.BoardLaws.{few-nodes, few-elements, p-node, q-node, other-node, flow-fits}
 use Rattle.circuit.proofs.IndexLaws.{after-is, many-is}
 use Rattle.circuit.proofs.NodeLaws.{element, here, element-here, end-element, node-here, other-here, leaving-here}
+
+-- ---- one element
+
+-- what a conductance carries more: what it stores falls out
+pub straight-gained : (g : ℕ) (x old new : ℤ) → pos g *ℤ (new -ℤ old) ≡ (pos g *ℤ new -ℤ x) -ℤ (pos g *ℤ old -ℤ x)
+straight-gained g x old new =
+    rw (scale-sub g new old)
+    (omega (
+      signs,
+      sub-law (pos g *ℤ new) (pos g *ℤ old),
+      sub-law (pos g *ℤ new -ℤ x) (pos g *ℤ old -ℤ x),
+      sub-law (pos g *ℤ new) x,
+      sub-law (pos g *ℤ old) x,
+    ))
+
+pub straight-fits : (g : ℕ) (old new : ℤ) → g ≤ conductanceLimit → Within breakpointLimit old → Within breakpointLimit new → g * natAbs (new -ℤ old) ≤ 2 ^ 57
+straight-fits g old new small a b =
+    let far : natAbs (new -ℤ old) ≤ 2 ^ 27 = omega (arith, abs-sub new old) in
+    let m : g * natAbs (new -ℤ old) ≤ conductanceLimit * 2 ^ 27 = mul-le-mul small far in
+    omega arith
 
 -- ---- one end
 
@@ -44,35 +62,6 @@ facing-is board volts end = go (eqb (end % 2) 0)
 signed-more : (b : Bool) (new old : ℤ) → cond b (new -ℤ old) (old -ℤ new) ≡ cond b new (negℤ new) -ℤ cond b old (negℤ old)
 signed-more true new old = refl
 signed-more false new old = omega (signs, sub-law old new, sub-law (negℤ new) (negℤ old), neg-law new, neg-law old)
-
--- .. and a conductance's: what is stored and the other end's voltage fall out
-line-more : (b : Bool) (g : ℕ) (x own v other : ℤ) → pos g *ℤ (v -ℤ own) ≡ (let c : ℤ → ℤ = λ u. pos g *ℤ cond b (u -ℤ other) (other -ℤ u) -ℤ x in cond b (c v) (negℤ (c v)) -ℤ cond b (c own) (negℤ (c own)))
-line-more true g x own v other =
-    rw (scale-sub g v own, scale-sub g v other, scale-sub g own other)
-    (omega (
-      signs,
-      sub-law (pos g *ℤ v) (pos g *ℤ own),
-      sub-law (pos g *ℤ v -ℤ pos g *ℤ other -ℤ x) (pos g *ℤ own -ℤ pos g *ℤ other -ℤ x),
-      sub-law (pos g *ℤ v -ℤ pos g *ℤ other) x,
-      sub-law (pos g *ℤ own -ℤ pos g *ℤ other) x,
-      sub-law (pos g *ℤ v) (pos g *ℤ other),
-      sub-law (pos g *ℤ own) (pos g *ℤ other),
-    ))
-line-more false g x own v other =
-    let new = pos g *ℤ other -ℤ pos g *ℤ v -ℤ x in
-    let old = pos g *ℤ other -ℤ pos g *ℤ own -ℤ x in
-    rw (scale-sub g v own, scale-sub g other v, scale-sub g other own)
-    (omega (
-      signs,
-      sub-law (pos g *ℤ v) (pos g *ℤ own),
-      sub-law (negℤ new) (negℤ old),
-      neg-law new,
-      neg-law old,
-      sub-law (pos g *ℤ other -ℤ pos g *ℤ v) x,
-      sub-law (pos g *ℤ other -ℤ pos g *ℤ own) x,
-      sub-law (pos g *ℤ other) (pos g *ℤ v),
-      sub-law (pos g *ℤ other) (pos g *ℤ own),
-    ))
 
 module _ (board : List ℕ) (stretches : List ℤ) (laid : Laid board stretches) (end : ℕ) (there : end / 2 < countOn board) where
   pub node-node : nodeOn board end ≤ nodesOn board
@@ -117,26 +106,25 @@ module _ (board : List ℕ) (stretches : List ℤ) (laid : Laid board stretches)
     abbrev more : ℤ
     more = leavingOn board stretches stored after end -ℤ leavingOn board stretches stored volts end
 
-    faced : curvedMore board stretches end own v other ≡ (let carried : ℤ → ℤ = λ u. curveCurrent stretches (firstOn board j) (breakpointsOn board j) (facing end u other) in cond (eqb (end % 2) 0) (carried v -ℤ carried own) (carried own -ℤ carried v))
-    faced = go (eqb (end % 2) 0)
-      where
-        c : ℤ → ℤ
-        c = curveCurrent stretches (firstOn board j) (breakpointsOn board j)
+    -- what the element carries more, taken at the end p from the old voltage to the new one and at the end q from the new one to the old one
+    abbrev turned : Bool → (ℤ → ℤ) → ℤ
+    turned b c = cond b (c (v -ℤ other) -ℤ c (own -ℤ other)) (c (other -ℤ own) -ℤ c (other -ℤ v))
 
+    faced : (c : ℤ → ℤ) → turned (eqb (end % 2) 0) c ≡ cond (eqb (end % 2) 0) (c (facing end v other) -ℤ c (facing end own other)) (c (facing end own other) -ℤ c (facing end v other))
+    faced c = go (eqb (end % 2) 0)
+      where
         go : (b : Bool) → cond b (c (v -ℤ other) -ℤ c (own -ℤ other)) (c (other -ℤ own) -ℤ c (other -ℤ v)) ≡ cond b (c (cond b (v -ℤ other) (other -ℤ v)) -ℤ c (cond b (own -ℤ other) (other -ℤ own))) (c (cond b (own -ℤ other) (other -ℤ own)) -ℤ c (cond b (v -ℤ other) (other -ℤ v)))
         go true = refl
         go false = refl
 
-    pub curve-more : hasCurve (kindOn board j) ≡ true → curvedMore board stretches end own v other ≡ more
-    curve-more e =
-        faced
-        ∙ rw (across-after, across-before, curve-current board stretches j e (reading stored j) (acrossOn board after j), curve-current board stretches j e (reading stored j) (acrossOn board volts j))
-        (signed-more (eqb (end % 2) 0) (current 1 (branchOn board stretches j .law) (reading stored j) (acrossOn board after j)) (current 1 (branchOn board stretches j .law) (reading stored j) (acrossOn board volts j)))
+    abbrev carried : ℤ → ℤ
+    carried u = current 1 (branchOn board stretches j .law) (reading stored j) u
 
-    pub straight-more : hasCurve (kindOn board j) ≡ false → pos (conductanceOn board j) *ℤ (v -ℤ own) ≡ more
-    straight-more e =
-        rw (← conductance-current board stretches j e (reading stored j) (acrossOn board after j), ← conductance-current board stretches j e (reading stored j) (acrossOn board volts j), ← across-after, ← across-before)
-        (line-more (eqb (end % 2) 0) (conductanceOn board j) (reading stored j) own v other)
+    pub end-more : (b : Bool) → eqb (end % 2) 0 ≡ b → turned b carried ≡ more
+    end-more b e =
+        ap (λ (t : Bool). turned t carried) (sym e)
+        ∙ faced carried
+        ∙ rw (across-after, across-before) (signed-more (eqb (end % 2) 0) (carried (acrossOn board after j)) (carried (acrossOn board volts j)))
 
 -- ---- one leak's current after the other
 

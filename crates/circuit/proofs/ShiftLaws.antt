@@ -11,10 +11,10 @@ use lib.IntN.{ℤ, pos, natAbs, _+ℤ_, _-ℤ_, _*ℤ_, +ℤ-idr}
 use lib.ListN.{length, set, length-set}
 use lib.Seq.{getD-set-same, getD-set-other}
 use borrow.Author.Tests.{eqb-true, eqb-false}
-use Rattle.units.specs.Voltage.{voltageLimit, Within}
-use Rattle.units.proofs.Integers.{signs, decideN, add-law, sub-law, pos-law, scale-sub}
+use Rattle.units.specs.Voltage.{voltageLimit}
+use Rattle.units.proofs.Integers.{signs, decideN, add-law, sub-law, pos-law}
 use Rattle.units.proofs.Sizes.{abs-sub, abs-mul}
-use Rattle.network.specs.Network.{Network, reading, leaving, net, branchLimit, leakLimit, conductanceLimit, breakpointLimit, currentBound}
+use Rattle.network.specs.Network.{Network, reading, leaving, net, branchLimit, leakLimit, breakpointLimit, currentBound}
 use Rattle.network.specs.Move.{moreBy, partShifted}
 use Rattle.network.proofs.Ranges.{difference-fits}
 use Rattle.network.proofs.Moves.{more-at-p, more-at-q, more-nowhere, shifted-none, shifted-more, shifted-all, shifted-small}
@@ -23,26 +23,8 @@ use Rattle.circuit.specs.Nets.{Netted}
 use Rattle.circuit.specs.Shift.{Shifted}
 use Rattle.circuit.proofs.BoardLaws.{few-nodes, p-node, q-node, flow-fits}
 
--- what a conductance carries more: what it stores falls out
-pub straight-gained : (g : ℕ) (x old new : ℤ) → pos g *ℤ (new -ℤ old) ≡ (pos g *ℤ new -ℤ x) -ℤ (pos g *ℤ old -ℤ x)
-straight-gained g x old new =
-    rw (scale-sub g new old)
-    (omega (
-      signs,
-      sub-law (pos g *ℤ new) (pos g *ℤ old),
-      sub-law (pos g *ℤ new -ℤ x) (pos g *ℤ old -ℤ x),
-      sub-law (pos g *ℤ new) x,
-      sub-law (pos g *ℤ old) x,
-    ))
-
-pub straight-fits : (g : ℕ) (old new : ℤ) → g ≤ conductanceLimit → Within breakpointLimit old → Within breakpointLimit new → g * natAbs (new -ℤ old) ≤ 2 ^ 57
-straight-fits g old new small a b =
-    let far : natAbs (new -ℤ old) ≤ 2 ^ 27 = omega (arith, abs-sub new old) in
-    let m : g * natAbs (new -ℤ old) ≤ conductanceLimit * 2 ^ 27 = mul-le-mul small far in
-    omega arith
-
 -- the leaks of the nodes below i have their new current, and nothing else has
-pub record Leaked (board : List ℕ) (stretches stored volts s : List ℤ) (i : ℕ) (nets : List ℤ) : Type 0 where
+pub record LeaksShifted (board : List ℕ) (stretches stored volts s : List ℤ) (i : ℕ) (nets : List ℤ) : Type 0 where
   pub long : length nets ≡ 16
   pub before : (m : ℕ) → m < i → reading nets m ≡ partShifted (networkOn board stretches) (reading stored) (reading volts) (reading s) 0 m
   pub later : (m : ℕ) → i ≤ m → m ≤ nodesOn board → reading nets m ≡ net 1 (networkOn board stretches) (reading stored) (reading volts) m
@@ -62,8 +44,8 @@ module _ (board : List ℕ) (stretches stored volts s : List ℤ) (given : Evalu
 
   -- ---- the leaks
 
-  pub leaked-none : {nets : List ℤ} → Netted board stretches stored volts nets → Leaked board stretches stored volts s 0 nets
-  leaked-none netted = record { long = netted .long; before = λ m l. absurd (omega arith); later = λ m l h. netted .each m h }
+  pub leaks-none : {nets : List ℤ} → Netted board stretches stored volts nets → LeaksShifted board stretches stored volts s 0 nets
+  leaks-none netted = record { long = netted .long; before = λ m l. absurd (omega arith); later = λ m l h. netted .each m h }
 
   pub leak-way-fits : (i : ℕ) → i ≤ nodesOn board → leakOn board * natAbs (reading s i -ℤ reading volts i) ≤ leakLimit * breakpointLimit
   leak-way-fits i h = mul-le-mul (given .ready .laid .limits .leak-small) (difference-fits (reading s i) (reading volts i) (there .ranged i h) (given .ranged i h))
@@ -83,8 +65,8 @@ module _ (board : List ℕ) (stretches stored volts s : List ℤ) (given : Evalu
         part-fits 0 i (omega arith) h,
       )
 
-  pub leaked-more : {i : ℕ} {nets : List ℤ} {y : ℤ} → Leaked board stretches stored volts s i nets → i ≤ nodesOn board → y ≡ reading nets i +ℤ pos (leakOn board) *ℤ (reading s i -ℤ reading volts i) → Leaked board stretches stored volts s (i + 1) (set nets i y)
-  leaked-more {i} {nets} {y} h l is =
+  pub leaks-more : {i : ℕ} {nets : List ℤ} {y : ℤ} → LeaksShifted board stretches stored volts s i nets → i ≤ nodesOn board → y ≡ reading nets i +ℤ pos (leakOn board) *ℤ (reading s i -ℤ reading volts i) → LeaksShifted board stretches stored volts s (i + 1) (set nets i y)
+  leaks-more {i} {nets} {y} h l is =
       let room : i < length nets = omega (arith, h .long, few-nodes board stretches (given .ready .laid)) in
       record {
         long = length-set nets i y ∙ h .long;
@@ -94,8 +76,8 @@ module _ (board : List ℕ) (stretches stored volts s : List ℤ) (given : Evalu
         later = λ m k t. getD-set-other nets i m y (pos 0) (λ e. omega arith) ∙ h .later m (omega arith) t;
       }
 
-  pub leaked-all : {i : ℕ} {nets : List ℤ} → Leaked board stretches stored volts s i nets → nodesOn board < i → Shifted board stretches stored volts s 0 nets
-  leaked-all h past = record { long = h .long; each = λ m l. h .before m (omega arith) }
+  pub leaks-all : {i : ℕ} {nets : List ℤ} → LeaksShifted board stretches stored volts s i nets → nodesOn board < i → Shifted board stretches stored volts s 0 nets
+  leaks-all h past = record { long = h .long; each = λ m l. h .before m (omega arith) }
 
   -- ---- element j
 

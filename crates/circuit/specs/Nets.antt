@@ -1,14 +1,11 @@
 -- The net currents of all nodes, kept beside the voltages and changed by the move of a node. Assumes nothing.
 use mathlib.Core.Path.{_≡_}
-use mathlib.Core.Bool.{cond}
 use mathlib.Core.List.{List}
-use Prim.Native.Nat.{ℕ, _/_, _%_, _≤_}
-use lib.Dec.{eqb}
-use lib.IntN.{ℤ, pos, _-ℤ_, _*ℤ_}
+use Prim.Native.Nat.{ℕ, _≤_}
+use lib.IntN.{ℤ, pos, _*ℤ_}
 use lib.ListN.{length, set}
 use Rattle.network.specs.Network.{reading, net}
-use Rattle.circuit.specs.Board.{leakOn, nodesOn, networkOn, firstOn, breakpointsOn}
-use Rattle.circuit.specs.Stretch.{curveCurrent}
+use Rattle.circuit.specs.Board.{leakOn, nodesOn, networkOn}
 
 -- what leaves every node by the leak
 pub record Leaked (board : List ℕ) (volts nets : List ℤ) : Type 0 where
@@ -30,9 +27,3 @@ pub record Spread (board : List ℕ) (stretches stored volts : List ℤ) (i : �
   pub long : length nets ≡ 16
   pub here : own ≡ net 1 (networkOn board stretches) (reading stored) (reading (set volts i v)) i
   pub others : (m : ℕ) → m ≤ nodesOn board → (m ≡ i → ⊥) → reading nets m ≡ net 1 (networkOn board stretches) (reading stored) (reading (set volts i v)) m
-
--- what leaves the node at an end more by the end's element, which has a curve, once the node stands at v and no longer at `own`, the other end at `other`
-abbrev pub curvedMore : List ℕ → List ℤ → ℕ → ℤ → ℤ → ℤ → ℤ
-curvedMore board stretches end own v other =
-    let carried : ℤ → ℤ = curveCurrent stretches (firstOn board (end / 2)) (breakpointsOn board (end / 2)) in
-    cond (eqb (end % 2) 0) (carried (v -ℤ other) -ℤ carried (own -ℤ other)) (carried (other -ℤ own) -ℤ carried (other -ℤ v))

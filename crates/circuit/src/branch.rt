@@ -3,16 +3,13 @@ use crate::board;
 use crate::curve;
 use network::kind;
 use units::signed;
-ghost use mathlib.Core.Bool.{true};
 ghost use mathlib.Core.Path.{_≡_};
 ghost use Prim.Native.Nat.{_/_, _<_};
-ghost use lib.IntN.{_-ℤ_};
+ghost use lib.IntN.{ℤ, _-ℤ_};
 ghost use lib.ListN.{length, set};
 ghost use Rattle.units.specs.Voltage.{Within, InRange};
 ghost use Rattle.network.specs.Network.{current, steepestOf, reading, breakpointLimit, storedLimit};
-ghost use Rattle.network.specs.Kind.{hasCurve};
-ghost use Rattle.circuit.specs.Board.{countOn, kindOn, plainConductance, branchOn, Laid, Evaluable, Ends, acrossOn, flowOn, endAt, nodeOn, otherOn, leavingOn};
-ghost use Rattle.circuit.specs.Nets.{curvedMore};
+ghost use Rattle.circuit.specs.Board.{countOn, plainConductance, branchOn, Laid, Evaluable, Ends, acrossOn, flowOn, endAt, nodeOn, otherOn, leavingOn};
 
 // Which end of an element a node is.
 pub enum End {
@@ -102,42 +99,26 @@ pub fn leaving(
     )
 }
 
-// What leaves the node at an end more by the end's element, which has a curve, once the node stands at v and no
-// longer at `own`. The other end stands at `other`.
-fn curved_more(
-    board: &[u64; 293],
-    stretches: &[i64; 408],
-    end: usize,
-    own: i64,
-    v: i64,
-    other: i64,
-) -> i64
-    requires { ⌜ Laid (now board) (now stretches) × (end / 2 < countOn (now board)) × (hasCurve (kindOn (now board) (end / 2)) ≡ true) × InRange own × InRange v × InRange other ⌝ }
-    ensures { λ r. ⌜ r ≡ curvedMore (now (board .entry)) (now (stretches .entry)) end own v other ⌝ }
+// What element j carries more at the voltage `new` than at `old`, whatever it stores.
+pub fn gained(board: &[u64; 293], stretches: &[i64; 408], j: usize, old: i64, new: i64) -> i64
+    requires { ⌜ Laid (now board) (now stretches) × (j < countOn (now board)) × Within breakpointLimit old × Within breakpointLimit new ⌝ }
+    ensures { λ r. ⌜ ((x : ℤ) → r ≡ current 1 (branchOn (now (board .entry)) (now (stretches .entry)) j .law) x new -ℤ current 1 (branchOn (now (board .entry)) (now (stretches .entry)) j .law) x old) ⌝ }
 {
-    let first = board::first(board, end / 2);
-    let m = board::breakpoints(board, end / 2);
-    if end % 2 == 0 {
+    let g = board::conductance(board, j);
+    if g == 0 {
         return curve::change(
             stretches,
-            first,
-            m,
-            signed::minus(own, other),
-            signed::minus(v, other),
+            board::first(board, j),
+            board::breakpoints(board, j),
+            old,
+            new,
         );
     }
-    curve::change(
-        stretches,
-        first,
-        m,
-        signed::minus(other, v),
-        signed::minus(other, own),
-    )
+    signed::times(signed::whole(g), signed::minus(new, old))
 }
 
 // What leaves the node at an end more by the end's element, once the node stands at v. The node's own voltage
-// and the node at the other end are handed over: a move has read them. A conductance asks for no more than
-// itself, since the other end stands still and what is stored stays.
+// and the node at the other end are handed over: a move has read them.
 pub fn more(
     board: &[u64; 293],
     stretches: &[i64; 408],
@@ -151,11 +132,23 @@ pub fn more(
     requires { ⌜ Evaluable (now board) (now stretches) (now stored) (now volts) × (length (now volts) ≡ 16) × (end / 2 < countOn (now board)) × (own ≡ reading (now volts) (nodeOn (now board) end)) × InRange v × (other ≡ otherOn (now board) end) ⌝ }
     ensures { λ r. ⌜ r ≡ leavingOn (now (board .entry)) (now (stretches .entry)) (now (stored .entry)) (set (now (volts .entry)) (nodeOn (now (board .entry)) end) v) end -ℤ leavingOn (now (board .entry)) (now (stretches .entry)) (now (stored .entry)) (now (volts .entry)) end ⌝ }
 {
-    let g = board::conductance(board, end / 2);
-    if g == 0 {
-        return curved_more(board, stretches, end, own, v, volts[other]);
+    let at = volts[other];
+    if end % 2 == 0 {
+        return gained(
+            board,
+            stretches,
+            end / 2,
+            signed::minus(own, at),
+            signed::minus(v, at),
+        );
     }
-    signed::times(signed::whole(g), signed::minus(v, own))
+    gained(
+        board,
+        stretches,
+        end / 2,
+        signed::minus(at, v),
+        signed::minus(at, own),
+    )
 }
 
 // The node at the other end of an end's element.

@@ -2,14 +2,10 @@
 // ends went the same way carries what it carried, and is not evaluated.
 use crate::board;
 use crate::branch;
-use crate::curve;
 use units::signed;
 ghost use mathlib.Core.Path.{_≡_};
 ghost use Prim.Native.Nat.{_+_, _<_};
-ghost use lib.IntN.{ℤ, _-ℤ_};
-ghost use Rattle.units.specs.Voltage.{Within};
-ghost use Rattle.network.specs.Network.{current, breakpointLimit};
-ghost use Rattle.circuit.specs.Board.{countOn, branchOn, Laid, Evaluable};
+ghost use Rattle.circuit.specs.Board.{countOn, Evaluable};
 ghost use Rattle.circuit.specs.Nets.{Netted};
 ghost use Rattle.circuit.specs.Shift.{Shifted};
 
@@ -34,24 +30,6 @@ fn leaks(
     }
 }
 
-// What element j carries more at the voltage `new` than at `old`, whatever it stores.
-fn gained(board: &[u64; 293], stretches: &[i64; 408], j: usize, old: i64, new: i64) -> i64
-    requires { ⌜ Laid (now board) (now stretches) × (j < countOn (now board)) × Within breakpointLimit old × Within breakpointLimit new ⌝ }
-    ensures { λ r. ⌜ ((x : ℤ) → r ≡ current 1 (branchOn (now (board .entry)) (now (stretches .entry)) j .law) x new -ℤ current 1 (branchOn (now (board .entry)) (now (stretches .entry)) j .law) x old) ⌝ }
-{
-    let g = board::conductance(board, j);
-    if g == 0 {
-        return curve::change(
-            stretches,
-            board::first(board, j),
-            board::breakpoints(board, j),
-            old,
-            new,
-        );
-    }
-    signed::times(signed::whole(g), signed::minus(new, old))
-}
-
 // What element j carries more: gained at its end p, lost at its end q.
 fn element(
     board: &[u64; 293],
@@ -70,7 +48,7 @@ fn element(
     if old == new {
         return;
     }
-    let more = gained(board, stretches, j, old, new);
+    let more = branch::gained(board, stretches, j, old, new);
     let p = board::end_p(board, j);
     let q = board::end_q(board, j);
     nets[p] = signed::plus(nets[p], more);

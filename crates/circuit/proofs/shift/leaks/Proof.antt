@@ -8,12 +8,12 @@ use borrow.Author.Needs.{needs}
 use Rattle.network.specs.Network.{reading}
 use Rattle.circuit.specs.Board.{leakOn, nodesOn}
 use Rattle.circuit.proofs.BoardLaws.{few-nodes}
-use Rattle.circuit.proofs.ShiftLaws.{Leaked, leaked-none, leaked-more, leaked-all, leak-way-fits, leak-fits}
+use Rattle.circuit.proofs.ShiftLaws.{LeaksShifted, leaks-none, leaks-more, leaks-all, leak-way-fits, leak-fits}
 use Rattle.circuit.proofs.shift.leaks.Statement.{statement}
 use Rattle.circuit.proofs.shift.leaks.Tie as tie
 
 abbrev Inv-loop : tie.InvT-loop
-Inv-loop board stretches stored volts s nets₀ nodes leak i₀ nets i = (i ≤ nodes + 1) × Leaked board stretches stored volts s i nets
+Inv-loop board stretches stored volts s nets₀ nodes leak i₀ nets i = (i ≤ nodes + 1) × LeaksShifted board stretches stored volts s i nets
 
 abbrev μ-loop : tie.MeasureT-loop
 μ-loop board stretches stored volts s nets₀ nodes leak i₀ nets i = nodes + 1 - i
@@ -34,7 +34,7 @@ at-leak c =
     e ∙ c .whole .ensures ∙ ap pos (c .before .leak .ensures)
 
 loop-holds : tie.Need-loop-holds Inv-loop μ-loop
-loop-holds c = let p = c .before .before .before .pre in (omega arith, leaked-none _ _ _ _ _ (p .0) (p .1) (p .2))
+loop-holds c = let p = c .before .before .before .pre in (omega arith, leaks-none _ _ _ _ _ (p .0) (p .1) (p .2))
 
 -- the node of the loop is there
 there : (c : tie.In-loop Inv-loop μ-loop) → c .before .loop .i ≤ nodesOn (c .before .before .before .before .before .args .board .now)
@@ -114,10 +114,10 @@ loop-again : tie.Need-loop-again Inv-loop μ-loop
 loop-again c =
     let s = c .before .before .before .before .before .before .before .before .before .before .before in
     let e : toZ w64 (ofZ w64 (c .plus .result)) ≡ c .plus .result = search needs in
-    (omega arith, leaked-more _ _ _ _ _ (s .pre .0) (s .pre .1) (c .before .before .before .before .before .before .before .loop .inv .1) (there (c .before .before .before .before .before .before)) (e ∙ (rw (more (c .before), at-nets (c .before .before .before)) at (c .plus .ensures))))
+    (omega arith, leaks-more _ _ _ _ _ (s .pre .0) (s .pre .1) (c .before .before .before .before .before .before .before .loop .inv .1) (there (c .before .before .before .before .before .before)) (e ∙ (rw (more (c .before), at-nets (c .before .before .before)) at (c .plus .ensures))))
 
 returns : tie.Need-returns Inv-loop μ-loop
-returns c = let s = c .before .before .before .before .before in leaked-all _ _ _ _ _ (s .pre .0) (s .pre .1) (c .before .loop .inv .1) (omega (arith, c .before .before .before .before .nodes .ensures))
+returns c = let s = c .before .before .before .before .before in leaks-all _ _ _ _ _ (s .pre .0) (s .pre .1) (c .before .loop .inv .1) (omega (arith, c .before .before .before .before .nodes .ensures))
 
 pub leaks-spec : {M : Type 1} → statement M
 leaks-spec =

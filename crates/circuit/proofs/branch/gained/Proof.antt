@@ -11,9 +11,9 @@ use Rattle.network.specs.Network.{conductanceLimit}
 use Rattle.network.specs.Kind.{hasCurve}
 use Rattle.circuit.specs.Board.{kindOn, conductanceOn}
 use Rattle.circuit.proofs.BoardLaws.{few-elements, curve-told, straight-told, conductance-fits, curve-current, conductance-current}
-use Rattle.circuit.proofs.ShiftLaws.{straight-gained, straight-fits}
-use Rattle.circuit.proofs.shift.gained.Statement.{statement}
-use Rattle.circuit.proofs.shift.gained.Tie as tie
+use Rattle.circuit.proofs.NetLaws.{straight-gained, straight-fits}
+use Rattle.circuit.proofs.branch.gained.Statement.{statement}
+use Rattle.circuit.proofs.branch.gained.Tie as tie
 
 -- what is known in the two arms
 curved : (c : tie.Then1) → hasCurve (kindOn (c .before .before .args .board .now) (c .before .before .args .j)) ≡ true
