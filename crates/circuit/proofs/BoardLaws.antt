@@ -11,7 +11,7 @@ use Rattle.units.proofs.Integers.{scale-one}
 use Rattle.network.specs.Network.{conductance, curve, pick, reading, current, conductanceOf, greatest, steepestOf, conductanceLimit, breakpointLimit, currentBound}
 use Rattle.network.proofs.Ranges.{difference-fits, current-fits}
 use Rattle.network.specs.Kind.{hasCurve}
-use Rattle.circuit.specs.Stretch.{slopesIn, breakpointsIn, curveCurrent}
+use Rattle.stretch.specs.Stretch.{slopesIn, breakpointsIn, curveCurrent}
 use Rattle.circuit.specs.declared.branch.End.{End}
 use Rattle.circuit.specs.declared.branch.End.the-variants.{P, Q, Neither}
 use Rattle.circuit.specs.Board.{nodesOn, countOn, kindOn, pOn, qOn, conductanceOn, firstOn, breakpointsOn, branchOn, networkOn, plainConductance, Laid, Ranged, Evaluable, Ends, acrossOn, flowOn, otherOn}

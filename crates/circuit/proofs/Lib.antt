@@ -1,14 +1,10 @@
 pub mod AdvanceLaws
 pub mod BoardLaws
 pub mod BoundLaws
-pub mod CurveLaws
-pub mod DrawingLaws
 pub mod FillingLaws
-pub mod Halving
 pub mod IndexLaws
 pub mod NetLaws
 pub mod NodeLaws
 pub mod Once
 pub mod PlaceLaws
 pub mod ShiftLaws
-pub mod StretchLaws

@@ -1,20 +1,18 @@
--- The promises that are no equations, each of which admits one outcome: the advance's, the least bound's, that of places taken over and that of a curve's rows. Assumes nothing.
+-- The promises that are no equations, each of which admits one outcome: the advance's, the least bound's and that of places taken over. Assumes nothing.
 use mathlib.Core.Path.{_≡_, refl, sym, _∙_, ap}
 use mathlib.Core.Bool.{true, false}
 use mathlib.Core.List.{List}
 use mathlib.Core.Logic.{inl, inr, ⊎-elim}
-use Prim.Native.Nat.{ℕ, _+_, _*_, _-_, _/_, _%_, _^_, _≤_, _<_}
+use Prim.Native.Nat.{ℕ, _^_, _≤_, _<_}
 use native.Mathlib.Omega.{arith}
 use lib.IntN.{ℤ, pos}
 use lib.Seq.{ext-getD}
 use Rattle.units.proofs.Integers.{decideN}
 use Rattle.network.specs.Bound.{Enough}
-use Rattle.network.specs.Network.{reading}
 use Rattle.circuit.specs.Board.{nodesOn, drivenOn, countOn, networkOn}
 use Rattle.circuit.specs.Advance.{AllKept, StoredTo, Advancing}
 use Rattle.circuit.specs.Bound.{Bounding}
 use Rattle.circuit.specs.Places.{Taken}
-use Rattle.circuit.specs.Stretch.{Filled}
 use Rattle.circuit.specs.declared.advance.Advanced.{Advanced}
 use Rattle.circuit.specs.declared.advance.Advanced.the-variants.{Stored, Beyond}
 use Rattle.circuit.specs.declared.bound.Bound.{Bound}
@@ -65,19 +63,3 @@ taken-once from first end before a b p q = ext-getD (pos 0) a b (p .long ∙ sym
     (λ (m : end ≤ i). p .elsewhere i (inr m) ∙ sym (q .elsewhere i (inr m)))
     (λ (m : i < end). p .taken i l m ∙ sym (q .taken i l m)) (decideN end i))
     (λ (l : i < first). p .elsewhere i (inl l) ∙ sym (q .elsewhere i (inl l))) (decideN first i))
-
--- ---- a curve's rows
-
-pub filled-once : (slopes : List ℕ) (breakpoints before : List ℤ) (first n : ℕ) (a b : List ℤ) → Filled slopes breakpoints before first n a → Filled slopes breakpoints before first n b → a ≡ b
-filled-once slopes breakpoints before first n a b p q = ext-getD (pos 0) a b (p .long ∙ sym (q .long)) (λ t h. ⊎-elim
-    (λ (l : 3 * first ≤ t). ⊎-elim
-    (λ (m : 3 * (first + n) ≤ t). p .elsewhere t (inr m) ∙ sym (q .elsewhere t (inr m)))
-    (λ (m : t < 3 * (first + n)). inside t l m) (decideN (3 * (first + n)) t))
-    (λ (l : t < 3 * first). p .elsewhere t (inl l) ∙ sym (q .elsewhere t (inl l))) (decideN (3 * first) t))
-  where
-    inside : (t : ℕ) → 3 * first ≤ t → t < 3 * (first + n) → reading a t ≡ reading b t
-    inside t l m =
-        let i = (t - 3 * first) / 3 in
-        let k = (t - 3 * first) % 3 in
-        let e : 3 * (first + i) + k ≡ t = omega arith in
-        rw (← e) (p .row i k (omega arith) (omega arith) ∙ sym (q .row i k (omega arith) (omega arith)))

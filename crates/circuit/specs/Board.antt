@@ -13,10 +13,10 @@ use Rattle.units.specs.Voltage.{Within, InRange}
 use Rattle.network.specs.Network.{Law, curve, conductance, current, pick, Branch, Network, Free, reading, steepest, InLimits, storedLimit}
 use Rattle.network.specs.Kind.{hasCurve, storeOf}
 use Rattle.network.specs.Elements.{touches}
+use Rattle.stretch.specs.Stretch.{slopesIn, breakpointsIn, CurveReady}
 use Rattle.circuit.specs.declared.branch.End.{End}
 use Rattle.circuit.specs.declared.branch.End.the-variants.{P, Q, Neither}
 use Rattle.circuit.specs.Index.{endNumber, indexSize, indexNumber}
-use Rattle.circuit.specs.Stretch.{slopesIn, breakpointsIn, CurveReady}
 
 -- how many places it has
 abbrev pub boardSize : ℕ

@@ -5,4 +5,3 @@ pub mod Index
 pub mod Nets
 pub mod Places
 pub mod Shift
-pub mod Stretch

@@ -1,7 +1,7 @@
 // One element as a branch: its current, and what leaves a node by it.
 use crate::board;
-use crate::curve;
 use network::kind;
+use stretch::curve;
 use units::signed;
 ghost use mathlib.Core.Path.{_≡_};
 ghost use Prim.Native.Nat.{_/_, _<_};

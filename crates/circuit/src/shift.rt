@@ -3,7 +3,6 @@
 use crate::board;
 use crate::branch;
 use units::signed;
-ghost use mathlib.Core.Path.{_≡_};
 ghost use Prim.Native.Nat.{_+_, _<_};
 ghost use Rattle.circuit.specs.Board.{countOn, Evaluable};
 ghost use Rattle.circuit.specs.Nets.{Netted};

@@ -2,14 +2,14 @@
 // the line of the stretch that the voltage lies in; any other element is a line already.
 use circuit::board;
 use circuit::branch;
-use circuit::curve;
-use circuit::stretches;
 use network::kind;
+use stretch::curve;
+use stretch::stretches;
 ghost use mathlib.Core.Path.{_≡_};
 ghost use mathlib.Core.Bool.{true};
 ghost use Prim.Native.Nat.{_<_};
 ghost use Rattle.network.specs.Kind.{hasCurve};
-ghost use Rattle.circuit.specs.Stretch.{CurveReady};
+ghost use Rattle.stretch.specs.Stretch.{CurveReady};
 ghost use Rattle.circuit.specs.Board.{countOn, kindOn, Laid, Ranged, Evaluable};
 
 // The current at the voltage v is slope × v + at_zero.

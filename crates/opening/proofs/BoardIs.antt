@@ -21,9 +21,9 @@ use Rattle.image.specs.Setting.{Setting}
 use Rattle.image.specs.Meaning.{lawAt, branchAt, networkAt}
 use Rattle.image.specs.Sound.{Sound}
 use Rattle.image.specs.declared.parts.Parts.{Parts}
+use Rattle.stretch.specs.Stretch.{slopesIn, breakpointsIn}
 use Rattle.circuit.specs.Board.{boardSize, nodesOn, drivenOn, countOn, steepestOn, kindOn, pOn, qOn, conductanceOn, firstOn, breakpointsOn, lawOn, branchOn, networkOn, Laid, Ready, Unindexed}
 use Rattle.circuit.specs.Index.{indexSize, indexNumber, indexOf}
-use Rattle.circuit.specs.Stretch.{slopesIn, breakpointsIn}
 use Rattle.circuit.proofs.FillingLaws.{index-long, index-at}
 use Rattle.opening.specs.Opening.{elementNumber, laidNumber, laidOf, boardNumber, boardTo, boardOf, stretchesOf}
 use Rattle.opening.proofs.LaidIs.{none-past, nothing-by, curve-by, element-is, laid-zero}

@@ -15,8 +15,8 @@ use Rattle.network.specs.Network.{reading, CurveInLimits}
 use Rattle.image.specs.Parts.{noCurve, curveOf, slopesOf, breakpointsOf}
 use Rattle.image.specs.declared.parts.Curve.{Curve}
 use Rattle.image.specs.declared.parts.Parts.{Parts}
-use Rattle.circuit.specs.Stretch.{stretchesSize, offset, atZero, stretchOf, slopesIn, breakpointsIn, slopesTo, breakpointsTo, rowNumber, CurveReady, Filled}
-use Rattle.circuit.proofs.CurveLaws.{slopes-in, slope-in, breakpoints-from}
+use Rattle.stretch.specs.Stretch.{stretchesSize, offset, atZero, stretchOf, slopesIn, breakpointsIn, slopesTo, breakpointsTo, rowNumber, CurveReady, Filled}
+use Rattle.stretch.proofs.CurveLaws.{slopes-in, slope-in, breakpoints-from}
 use Rattle.opening.specs.Opening.{tableNumber, stretchesOf}
 
 -- a curve's lists are those that the table is filled from

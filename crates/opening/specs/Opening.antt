@@ -12,9 +12,9 @@ use Rattle.image.specs.Conductance.{conductanceAt}
 use Rattle.image.specs.Setting.{Setting}
 use Rattle.image.specs.Meaning.{leakOf, networkAt}
 use Rattle.image.specs.declared.parts.Parts.{Parts}
+use Rattle.stretch.specs.Stretch.{stretchesSize, rowNumber}
 use Rattle.circuit.specs.Board.{boardSize}
 use Rattle.circuit.specs.Index.{indexNumber}
-use Rattle.circuit.specs.Stretch.{stretchesSize, rowNumber}
 
 -- number k of element j: kind, p, q and conductance, and for a curve the row of its first stretch and how many breakpoints it has
 abbrev pub elementNumber : Parts → Setting → ℕ → ℕ → ℕ

@@ -1,12 +1,12 @@
 // The table of stretches of all curves, 17 rows each.
-use circuit::drawing;
 use image::Curve;
 use image::Parts;
+use stretch::drawing;
 ghost use mathlib.Core.Path.{_≡_};
 ghost use lib.IntN.{pos};
 ghost use lib.ListN.{length, replicate};
 ghost use Rattle.image.specs.Sound.{Sound};
-ghost use Rattle.circuit.specs.Stretch.{stretchesSize};
+ghost use Rattle.stretch.specs.Stretch.{stretchesSize};
 ghost use Rattle.opening.specs.Opening.{stretchesOf};
 
 // The curves once more. That there are eight of them is known of an array, and not of a struct's field.

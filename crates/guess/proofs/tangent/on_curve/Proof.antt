@@ -3,9 +3,9 @@ use native.Mathlib.Omega.{arith}
 use mir.Syntax.{w64}
 use mir.Val.{toZ, ofZ}
 use borrow.Author.Needs.{needs}
-use Rattle.circuit.specs.Stretch.{rows, breakpointsIn}
-use Rattle.circuit.proofs.StretchLaws.{stretch-there}
-use Rattle.circuit.proofs.CurveLaws.{breakpoints-in}
+use Rattle.stretch.specs.Stretch.{rows, breakpointsIn}
+use Rattle.stretch.proofs.StretchLaws.{stretch-there}
+use Rattle.stretch.proofs.CurveLaws.{breakpoints-in}
 use Rattle.guess.proofs.tangent.on_curve.Statement.{statement}
 use Rattle.guess.proofs.tangent.on_curve.Tie as tie
 

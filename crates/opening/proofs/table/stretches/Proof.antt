@@ -9,7 +9,7 @@ use Rattle.units.specs.Table.{padded}
 use Rattle.units.proofs.Tables.{getD-any, padded-none, padded-length}
 use Rattle.image.specs.Parts.{noCurve, curveOf}
 use Rattle.image.proofs.Places.{curve-there}
-use Rattle.circuit.specs.Stretch.{stretchesSize}
+use Rattle.stretch.specs.Stretch.{stretchesSize}
 use Rattle.opening.specs.Opening.{tableNumber}
 use Rattle.opening.proofs.TableIs.{slopes-same, breakpoints-same, breakpoints-long, table-more, table-all}
 use Rattle.opening.proofs.table.stretches.Statement.{statement}
