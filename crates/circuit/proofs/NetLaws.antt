@@ -17,11 +17,12 @@ use Rattle.units.proofs.Integers.{signs, decideN, add-law, sub-law, neg-law, sc
 use Rattle.units.proofs.Sizes.{abs-sub, abs-mul, sum-more}
 use Rattle.network.specs.Network.{Network, pick, reading, current, leaving, net, branchLimit, leakLimit, conductanceLimit, breakpointLimit, currentBound}
 use Rattle.network.proofs.Ranges.{difference-fits, partial-sum-small}
+use Rattle.network.specs.Kind.{hasCurve}
 use Rattle.network.specs.Move.{Still, moreBy, partMoved}
 use Rattle.network.proofs.Moves.{more-other, more-elsewhere, moved-none, moved-more, moved-all, moved-small, more-small}
-use Rattle.circuit.specs.Board.{leakOn, nodesOn, countOn, pOn, qOn, startOn, endOn, branchOn, networkOn, Laid, Ranged, Evaluable, acrossOn, flowOn, nodeOn, otherOn, leavingOn}
+use Rattle.circuit.specs.Board.{leakOn, nodesOn, countOn, kindOn, pOn, qOn, conductanceOn, startOn, endOn, branchOn, networkOn, Laid, Ranged, Evaluable, acrossOn, flowOn, nodeOn, otherOn, leavingOn}
 use Rattle.circuit.specs.Nets.{Leaked, Netted, Moved, Spread}
-use Rattle.circuit.proofs.BoardLaws.{few-nodes, few-elements, p-node, q-node, other-node, flow-fits}
+use Rattle.circuit.proofs.BoardLaws.{few-nodes, few-elements, p-node, q-node, other-node, conductance-current, flow-fits}
 use Rattle.circuit.proofs.IndexLaws.{after-is, many-is}
 use Rattle.circuit.proofs.NodeLaws.{element, here, element-here, end-element, node-here, other-here, leaving-here}
 
@@ -125,6 +126,20 @@ module _ (board : List ℕ) (stretches : List ℤ) (laid : Laid board stretches)
         ap (λ (t : Bool). turned t carried) (sym e)
         ∙ faced carried
         ∙ rw (across-after, across-before) (signed-more (eqb (end % 2) 0) (carried (acrossOn board after j)) (carried (acrossOn board volts j)))
+
+    -- .. and of a conductance it is the same at either end
+    pub straight-more : hasCurve (kindOn board j) ≡ false → pos (conductanceOn board j) *ℤ (v -ℤ own) ≡ more
+    straight-more e = go (eqb (end % 2) 0) refl
+      where
+        between : (old new : ℤ) → v -ℤ own ≡ new -ℤ old → pos (conductanceOn board j) *ℤ (v -ℤ own) ≡ carried new -ℤ carried old
+        between old new way =
+            ap (λ (z : ℤ). pos (conductanceOn board j) *ℤ z) way
+            ∙ straight-gained (conductanceOn board j) (reading stored j) old new
+            ∙ rw (conductance-current board stretches j e (reading stored j) new, conductance-current board stretches j e (reading stored j) old)
+
+        go : (b : Bool) → eqb (end % 2) 0 ≡ b → pos (conductanceOn board j) *ℤ (v -ℤ own) ≡ more
+        go true is = between (own -ℤ other) (v -ℤ other) (omega (signs, sub-law v own, sub-law (v -ℤ other) (own -ℤ other), sub-law v other, sub-law own other)) ∙ end-more true is
+        go false is = between (other -ℤ v) (other -ℤ own) (omega (signs, sub-law v own, sub-law (other -ℤ own) (other -ℤ v), sub-law other own, sub-law other v)) ∙ end-more false is
 
 -- ---- one leak's current after the other
 

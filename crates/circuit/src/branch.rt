@@ -118,7 +118,8 @@ pub fn gained(board: &[u64; 293], stretches: &[i64; 408], j: usize, old: i64, ne
 }
 
 // What leaves the node at an end more by the end's element, once the node stands at v. The node's own voltage
-// and the node at the other end are handed over: a move has read them.
+// and the node at the other end are handed over: a move has read them. A conductance asks for no more than
+// itself, since the other end stands still and what is stored stays: it is not asked which end it is.
 pub fn more(
     board: &[u64; 293],
     stretches: &[i64; 408],
@@ -132,6 +133,10 @@ pub fn more(
     requires { ⌜ Evaluable (now board) (now stretches) (now stored) (now volts) × (length (now volts) ≡ 16) × (end / 2 < countOn (now board)) × (own ≡ reading (now volts) (nodeOn (now board) end)) × InRange v × (other ≡ otherOn (now board) end) ⌝ }
     ensures { λ r. ⌜ r ≡ leavingOn (now (board .entry)) (now (stretches .entry)) (now (stored .entry)) (set (now (volts .entry)) (nodeOn (now (board .entry)) end) v) end -ℤ leavingOn (now (board .entry)) (now (stretches .entry)) (now (stored .entry)) (now (volts .entry)) end ⌝ }
 {
+    let g = board::conductance(board, end / 2);
+    if 0 < g {
+        return signed::times(signed::whole(g), signed::minus(v, own));
+    }
     let at = volts[other];
     if end % 2 == 0 {
         return gained(
