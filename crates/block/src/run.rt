@@ -27,7 +27,7 @@ fn begin(
     m: &mut [[f64; 15]; 15],
     inverse: &mut [[f64; 15]; 15],
     notes: &mut [usize; 96],
-    way: &mut [[f64; 34]; 15],
+    way: &mut [[f64; 15]; 34],
 )
     requires { ⌜ Guessable (now board) (now stretches) (now x) × Driven (now board) (now drives) j × (length (now volts) ≡ 16) ⌝ }
     ensures { λ _. ⌜ Begun (now (board .entry)) (now (drives .entry)) j (now (volts .exit)) × (length (now (volts .exit)) ≡ 16) ⌝ }
@@ -48,7 +48,7 @@ fn next(
     m: &mut [[f64; 15]; 15],
     inverse: &mut [[f64; 15]; 15],
     notes: &mut [usize; 96],
-    way: &mut [[f64; 34]; 15],
+    way: &mut [[f64; 15]; 34],
 ) -> Number
     requires { ⌜ Playable (now board) (now stretches) (now x) × Driven (now board) (now drives) j × (length (now volts) ≡ 16) ⌝ }
     ensures { λ r. ⌜ Sampled (networkOn (now (board .entry)) (now (stretches .entry))) (driveAt (now (drives .entry)) (drivenOn (now (board .entry))) j) (now (x .entry)) (now (x .exit)) (now (volts .exit)) r × (length (now (volts .exit)) ≡ 16) ⌝ }
@@ -69,8 +69,8 @@ fn next(
     sample::sample(board, stretches, volts, x)
 }
 
-// All samples, each from the voltages of the one before it and what the guess kept. What comes back is the number times
-// 65,536 and the count of the accepted ones.
+// All samples, each from the voltages of the one before it and what the guess kept. What comes back is the
+// number times 65,536 and the count of the accepted ones.
 pub fn run(
     board: &[u64; 293],
     stretches: &[i64; 408],
@@ -88,7 +88,7 @@ pub fn run(
     let mut m = [[0.0f64; 15]; 15];
     let mut inverse = [[0.0f64; 15]; 15];
     let mut notes = [0usize; 96];
-    let mut way = [[0.0f64; 34]; 15];
+    let mut way = [[0.0f64; 15]; 34];
     let mut j: usize = 0;
     while j < n {
         let number = number::value(next(

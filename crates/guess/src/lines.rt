@@ -2,7 +2,8 @@
 // element's tangent, the matrix of their slopes, and its inverse. They stay as long as no curve is on
 // another line, which is most of the time; where one is, only its slope's change is brought in.
 //
-// `lines` has a tangent's two numbers for each element, and `notes` is told in notes.rt.
+// `lines` has a tangent's two numbers for each element; of a stored element's the second is old, and is
+// never read. `notes` is told in notes.rt.
 use crate::matrix;
 use crate::notes;
 use crate::tangent;
@@ -91,8 +92,12 @@ fn anew(
 {
     let fresh = drawn(board, stretches, stored, volts, lines);
     *m = fresh;
-    notes::made(notes);
-    matrix::inverted(fresh, board::driven(board), board::nodes(board), inverse)
+    if matrix::inverted(fresh, board::driven(board), board::nodes(board), inverse) {
+        notes::made(notes);
+        return true;
+    }
+    notes::lost(notes);
+    false
 }
 
 // Notes which elements have curves.
@@ -126,7 +131,7 @@ fn present(
     kept(lines, j)
 }
 
-// One if element j has another slope than is kept of it, else none.
+// One if element j is on another line than is kept of it, else none.
 fn strays(
     board: &[u64; 293],
     stretches: &[i64; 408],
@@ -139,7 +144,7 @@ fn strays(
 {
     if j < board::count(board) {
         let t = present(board, stretches, volts, lines, j);
-        if t.slope != lines[j][0] {
+        if (t.slope != lines[j][0]) | (t.at_zero != lines[j][1]) {
             return 1;
         }
     }

@@ -1,5 +1,5 @@
 // Matrices over the nodes, and vectors beside them. Row and column k are node k + 1's, driven nodes
-// included: their places are never read, and a row by node number costs one subtraction. What is
+// included: nothing is asked of their places, and a row by node number costs one subtraction. What is
 // done for the free nodes goes from row `first` up to row `end`.
 //
 // The matrix of the slopes is symmetric, off its diagonal nothing is above zero, and no row's sum is

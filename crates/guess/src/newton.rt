@@ -9,14 +9,13 @@ use crate::whole;
 use circuit::board;
 use circuit::nets;
 use units::signed;
-use units::voltage::Nearest;
 use units::voltage::Voltage;
 ghost use mathlib.Core.Path.{_≡_};
-ghost use Prim.Native.Nat.{_≤_, _<_};
-ghost use lib.IntN.{ℤ};
+ghost use Prim.Native.Nat.{_^_, _≤_, _<_};
+ghost use lib.IntN.{natAbs};
 ghost use lib.ListN.{length};
 ghost use Rattle.units.specs.Voltage.{InRange};
-ghost use Rattle.circuit.specs.Board.{nodesOn, drivenOn, Laid, Ranged, Evaluable};
+ghost use Rattle.circuit.specs.Board.{nodesOn, Evaluable};
 ghost use Rattle.guess.specs.Proposal.{Standing, Proposed};
 
 // How a guess ended. The first two carry the largest net current that remains at a free node, at the
@@ -34,17 +33,22 @@ fn larger(a: f64, b: f64) -> f64 {
     if a < b { b } else { a }
 }
 
+// Whether a round goes the whole way that its lines say.
+fn goes_whole(round: u64) -> bool {
+    round < 20
+}
+
 // Which part of a step is made in a round: where curves go back and forth between two lines, half steps
 // and then quarter steps end it.
 fn damping(round: u64) -> f64 {
-    if round < 20 {
+    if goes_whole(round) {
         return 1.0;
     }
     if round < 34 { 0.5 } else { 0.25 }
 }
 
-// The net currents of the free nodes.
-fn remaining(
+// What enters the free nodes: their net currents with the other sign.
+fn entering(
     board: &[u64; 293],
     stretches: &[i64; 408],
     stored: &[i64; 32],
@@ -54,37 +58,27 @@ fn remaining(
 {
     let exact = nets::taken(board, stretches, stored, volts);
     let nodes = board::nodes(board);
-    let mut left = [0.0f64; 15];
+    let mut enters = [0.0f64; 15];
     let mut k = board::driven(board);
     while k < nodes {
-        left[k] = std::num::nearest_i64_to_f64(exact[k + 1]);
+        enters[k] = -std::num::nearest_i64_to_f64(exact[k + 1]);
         k += 1;
     }
-    left
+    enters
 }
 
-// The largest of them.
-fn largest(board: &[u64; 293], nets: [f64; 15]) -> f64
+// The largest of them, either way.
+fn largest(board: &[u64; 293], enters: [f64; 15]) -> f64
     requires { ⌜ nodesOn (now board) ≤ 15 ⌝ }
 {
     let nodes = board::nodes(board);
     let mut most: f64 = 0.0;
     let mut k = board::driven(board);
     while k < nodes {
-        most = larger(most, whole::size(nets[k]));
+        most = larger(most, whole::size(enters[k]));
         k += 1;
     }
     most
-}
-
-// How far each free node has to go, by the lines, until no net current is left.
-fn steps(inverse: &[[f64; 15]; 15], nets: [f64; 15], first: usize, end: usize) -> [f64; 15]
-    requires { ⌜ end ≤ 15 ⌝ }
-{
-    let x = matrix::times(inverse, &nets, first, end);
-    let mut back = [0.0f64; 15];
-    matrix::add(&x, -1.0, &mut back);
-    back
 }
 
 // A step within the range, to one side or the other.
@@ -98,15 +92,29 @@ fn within(x: f64) -> f64 {
     x
 }
 
+// A whole step as an integer. It is raised above zero for the conversion: whether a node goes up or down is
+// as good as random, and a jump by its sign is foreseen wrongly half of the time.
+fn whole_step(step: f64) -> i64
+    ensures { λ r. ⌜ natAbs r ≤ 2 ^ 28 ⌝ }
+{
+    let above = step + 67108864.0;
+    if above > -1.0 {
+        if above < 18446744073709551616.0 {
+            let raised = std::num::truncating_f64_to_u64(above);
+            if raised <= 134217728 {
+                return signed::minus(signed::whole(raised), 67108864);
+            }
+        }
+    }
+    0
+}
+
 // Where a node at v comes to if it goes as far as this, in whole microvolts and in range.
 fn gone(v: i64, step: f64) -> i64
     requires { ⌜ InRange v ⌝ }
     ensures { λ r. ⌜ InRange r ⌝ }
 {
-    match Voltage::from_f64(within(step)) {
-        Nearest::At(t) => Voltage::clamped(signed::plus(v, t.microvolts)),
-        Nearest::Nothing => v,
-    }
+    Voltage::clamped(signed::plus(v, whole_step(within(step))))
 }
 
 // The node of row k goes a part of the way that x says, and x is what is left of it. How far it went: most
@@ -164,17 +172,13 @@ fn solved(
     if !lines::refreshed(board, stretches, stored, volts, lines, m, inverse, notes) {
         return false;
     }
-    *x = steps(
-        inverse,
-        remaining(board, stretches, stored, volts),
-        board::driven(board),
-        board::nodes(board),
-    );
+    let enters = entering(board, stretches, stored, volts);
+    *x = matrix::times(inverse, &enters, board::driven(board), board::nodes(board));
     true
 }
 
 // Rounds until every curve holds, or no voltage changed, or there were enough of them. x is how far the
-// nodes still have to go.
+// nodes still have to go. Where only a part of the way was gone, curves that hold tell nothing.
 fn rounds(
     board: &[u64; 293],
     stretches: &[i64; 408],
@@ -199,7 +203,7 @@ fn rounds(
             return Came::Open;
         }
         most = go(board, damping(round), x, volts);
-        if lines::hold(board, stretches, volts, lines, notes) {
+        if goes_whole(round) && lines::hold(board, stretches, volts, lines, notes) {
             return Came::Held;
         }
         round += 1;
@@ -216,7 +220,7 @@ fn end(
     inverse: &[[f64; 15]; 15],
     x: [f64; 15],
     notes: &mut [usize; 96],
-    way: &mut [[f64; 34]; 15],
+    way: &mut [[f64; 15]; 34],
     volts: &mut [i64; 16],
 ) -> f64
     requires { ⌜ Evaluable (now board) (now stretches) (now stored) (now volts) × Standing (now board) (now volts) ⌝ }
@@ -232,7 +236,7 @@ fn end(
         way,
     );
     go(board, 1.0, &mut whole, volts);
-    largest(board, remaining(board, stretches, stored, volts))
+    largest(board, entering(board, stretches, stored, volts))
 }
 
 // The rounds and then whole microvolts.
@@ -245,7 +249,7 @@ fn search(
     m: &mut [[f64; 15]; 15],
     inverse: &mut [[f64; 15]; 15],
     notes: &mut [usize; 96],
-    way: &mut [[f64; 34]; 15],
+    way: &mut [[f64; 15]; 34],
 ) -> Ending
     requires { ⌜ Evaluable (now board) (now stretches) (now stored) (now volts) × Standing (now board) (now volts) ⌝ }
     ensures { λ r. ⌜ Standing (now (board .entry)) (now (volts .exit)) ⌝ }
@@ -298,7 +302,7 @@ pub fn newton(
     m: &mut [[f64; 15]; 15],
     inverse: &mut [[f64; 15]; 15],
     notes: &mut [usize; 96],
-    way: &mut [[f64; 34]; 15],
+    way: &mut [[f64; 15]; 34],
     guess: &mut [i64; 16],
 ) -> Ending
     requires { ⌜ Evaluable (now board) (now stretches) (now stored) (now volts) × (length (now guess) ≡ 16) ⌝ }

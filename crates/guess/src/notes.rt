@@ -1,7 +1,7 @@
 // What the guess notes from sample to sample in whole numbers, in one array of 96 places:
 //
 // place 0: how old the inverse is: 0 if there is none, 1 when it was just made, and one more for each
-// update; 1: how many stiff links there are, and one more; 0 if they are not known; 2: how many
+// update (with one free node there is no inverse, and it is 1 once the curves are noted); 1: how many stiff links there are, and one more; 0 if they are not known; 2: how many
 // curves; from 3 and from 18 on, 15 each: the rows that the links join; from 33 on: the curves'
 // elements; 65: how many links the remembered way has; from 66 and from 81 on, 15 each: the row that is
 // spared at a link of it, and the one that it is tied to.
@@ -17,6 +17,12 @@ pub fn age(notes: &[usize; 96]) -> usize {
 fn forget_links(notes: &mut [usize; 96]) {
     notes[1] = 0;
     notes[65] = 0;
+}
+
+// There is none.
+pub fn lost(notes: &mut [usize; 96]) {
+    notes[0] = 0;
+    forget_links(notes);
 }
 
 // Just made.

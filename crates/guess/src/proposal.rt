@@ -22,7 +22,7 @@ pub fn propose(
     m: &mut [[f64; 15]; 15],
     inverse: &mut [[f64; 15]; 15],
     notes: &mut [usize; 96],
-    way: &mut [[f64; 34]; 15],
+    way: &mut [[f64; 15]; 34],
 ) -> Ending
     requires { ⌜ Guessable (now board) (now stretches) (now stored) × (length (now volts) ≡ 16) ⌝ }
     ensures { λ r. ⌜ Proposed (now (board .entry)) (now (volts .entry)) (now (volts .exit)) ⌝ }

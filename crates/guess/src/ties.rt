@@ -42,7 +42,7 @@ const SWAPS: usize = 16;
 
 // All nodes sink by `by` times u, which takes as much of y off the rows' currents; those in force stay
 // balanced.
-fn sink(
+pub fn sink(
     vectors: &mut [[f64; 15]; 3],
     sets: &[[usize; 15]; 3],
     u: &[f64; 15],
@@ -142,7 +142,7 @@ fn strains(
 }
 
 // The first row that does, 15 for none.
-fn strained(
+pub fn strained(
     m: &[[f64; 15]; 15],
     vectors: &[[f64; 15]; 3],
     sets: &[[usize; 15]; 3],
@@ -235,7 +235,7 @@ fn take_place(
     vectors[SUMS][i] = sum * inverse;
 }
 
-// As long as a row is strained. False where there is no more to do.
+// As long as a row is strained, and often enough.
 fn relieve(
     m: &[[f64; 15]; 15],
     columns: &mut [[f64; 15]; 15],
@@ -367,7 +367,7 @@ fn cheaper(
 fn noted(
     m: &[[f64; 15]; 15],
     notes: &mut [usize; 96],
-    way: &mut [[f64; 34]; 15],
+    way: &mut [[f64; 15]; 34],
     columns: &mut [[f64; 15]; 15],
     vectors: &mut [[f64; 15]; 3],
     sets: &mut [[usize; 15]; 3],
@@ -387,7 +387,7 @@ fn noted(
     let u = columns[r];
     let y = matrix::times(m, &u, first, end);
     if state == NOTES {
-        way::note(way, notes, sets, k, r, s, &u, &y, costs);
+        way::note(way, notes, k, r, s, u, y, costs);
     }
     if cheaper(
         m,
@@ -416,7 +416,7 @@ fn noted(
 fn tie_roots(
     m: &[[f64; 15]; 15],
     notes: &mut [usize; 96],
-    way: &mut [[f64; 34]; 15],
+    way: &mut [[f64; 15]; 34],
     columns: &mut [[f64; 15]; 15],
     vectors: &mut [[f64; 15]; 3],
     sets: &mut [[usize; 15]; 3],
@@ -488,7 +488,7 @@ fn tie_roots(
 fn rebuild(
     inverse: &[[f64; 15]; 15],
     notes: &[usize; 96],
-    way: &[[f64; 34]; 15],
+    way: &[[f64; 15]; 34],
     columns: &mut [[f64; 15]; 15],
     vectors: &mut [[f64; 15]; 3],
     n: usize,
@@ -504,13 +504,12 @@ fn rebuild(
     vectors[SUMS] = sums;
     while k < n {
         let spared = notes::spared(notes, k);
-        let u = way::answer(way, k);
         sets::spare(&mut marks, spared);
         level(
             columns,
             vectors,
             &marks,
-            &u,
+            &way[k],
             spared,
             notes::keeps(notes, k),
             first,
@@ -525,7 +524,7 @@ fn tie_link(
     m: &[[f64; 15]; 15],
     inverse: &[[f64; 15]; 15],
     notes: &mut [usize; 96],
-    way: &mut [[f64; 34]; 15],
+    way: &mut [[f64; 15]; 34],
     columns: &mut [[f64; 15]; 15],
     vectors: &mut [[f64; 15]; 3],
     sets: &mut [[usize; 15]; 3],
@@ -581,7 +580,7 @@ fn tie_all(
     m: &[[f64; 15]; 15],
     inverse: &[[f64; 15]; 15],
     notes: &mut [usize; 96],
-    way: &mut [[f64; 34]; 15],
+    way: &mut [[f64; 15]; 34],
     vectors: &mut [[f64; 15]; 3],
     sets: &mut [[usize; 15]; 3],
     first: usize,
@@ -648,7 +647,7 @@ pub fn cut(
     first: usize,
     end: usize,
     notes: &mut [usize; 96],
-    way: &mut [[f64; 34]; 15],
+    way: &mut [[f64; 15]; 34],
 ) -> [f64; 15]
     requires { ⌜ end ≤ 15 ⌝ }
 {

@@ -1,7 +1,7 @@
 // The way that the ties went in the last sample. As long as the matrix stays and the same rows are spared, a
-// tie costs two vectors: what is remembered of each link is how the nodes answer to the spared row, which
-// currents that makes (15 places each), what a microvolt across the link costs either root, and the sums of
-// their columns (two places each).
+// tie costs two vectors. Remembered of link k are: in row k, how the nodes answer to the spared row; in row
+// 15 + k, which currents that makes; and at place k of the last four rows, what a microvolt across the link
+// costs either root, and the sums of their columns.
 use crate::notes;
 use crate::sets;
 use crate::ties;
@@ -13,94 +13,33 @@ const CURRENTS: usize = 15;
 
 const COSTS: usize = 30;
 
-// How the nodes answer to the row that is spared at link k.
-pub fn answer(way: &[[f64; 34]; 15], k: usize) -> [f64; 15]
-    requires { ⌜ k < 15 ⌝ }
-{
-    let mut u = [0.0f64; 15];
-    let mut i: usize = 0;
-    while i < 15 {
-        u[i] = way[k][i];
-        i += 1;
-    }
-    u
-}
-
-// Link k is remembered. Rows in force stay balanced, whatever was reckoned.
+// Link k is remembered.
 pub fn note(
-    way: &mut [[f64; 34]; 15],
+    way: &mut [[f64; 15]; 34],
     notes: &mut [usize; 96],
-    sets: &[[usize; 15]; 3],
     k: usize,
     spared: usize,
     keeps: usize,
-    u: &[f64; 15],
-    y: &[f64; 15],
+    u: [f64; 15],
+    y: [f64; 15],
     costs: [f64; 4],
 )
-    requires { ⌜ (k < 15) × (spared < 15) ⌝ }
-{
-    let mut i: usize = 0;
-    while i < 15 {
-        way[k][i] = u[i];
-        way[k][CURRENTS + i] = if sets[sets::SPARED][i] == 0 {
-            0.0
-        } else {
-            y[i]
-        };
-        i += 1;
-    }
-    way[k][CURRENTS + spared] = y[spared];
-    way[k][COSTS] = costs[0];
-    way[k][COSTS + 1] = costs[1];
-    way[k][COSTS + 2] = costs[2];
-    way[k][COSTS + 3] = costs[3];
-    notes::set_way(k, spared, keeps, notes);
-}
-
-// Whether a spared row would have less to spare than nothing, if `by` is taken at link k.
-fn strains(
-    m: &[[f64; 15]; 15],
-    way: &[[f64; 34]; 15],
-    vectors: &[[f64; 15]; 3],
-    sets: &[[usize; 15]; 3],
-    k: usize,
-    by: f64,
-    first: usize,
-    end: usize,
-) -> bool
-    requires { ⌜ (k < 15) × (end ≤ 15) ⌝ }
-{
-    let mut i = first;
-    while i < end {
-        let over = vectors[ties::OVER][i] - by * way[k][CURRENTS + i];
-        if sets[sets::SPARED][i] != 0 {
-            if m[i][i] * whole::ROUNDED < over {
-                return true;
-            }
-        }
-        i += 1;
-    }
-    false
-}
-
-// All nodes sink by `by` times the answer at link k.
-fn sink(way: &[[f64; 34]; 15], vectors: &mut [[f64; 15]; 3], k: usize, by: f64)
     requires { ⌜ k < 15 ⌝ }
 {
-    let mut i: usize = 0;
-    while i < 15 {
-        vectors[ties::AT][i] = vectors[ties::AT][i] - by * way[k][i];
-        vectors[ties::OVER][i] = vectors[ties::OVER][i] - by * way[k][CURRENTS + i];
-        i += 1;
-    }
+    way[k] = u;
+    way[CURRENTS + k] = y;
+    way[COSTS][k] = costs[0];
+    way[COSTS + 1][k] = costs[1];
+    way[COSTS + 2][k] = costs[2];
+    way[COSTS + 3][k] = costs[3];
+    notes::set_way(k, spared, keeps, notes);
 }
 
 // Link k as it is remembered, if the same row is spared and none is strained by it.
 fn follow_sparing(
     m: &[[f64; 15]; 15],
     notes: &[usize; 96],
-    way: &[[f64; 34]; 15],
+    way: &[[f64; 15]; 34],
     vectors: &mut [[f64; 15]; 3],
     sets: &mut [[usize; 15]; 3],
     k: usize,
@@ -115,11 +54,11 @@ fn follow_sparing(
     if notes::spared(notes, k) != spared {
         return false;
     }
-    if strains(m, way, vectors, sets, k, by, first, end) {
+    if ties::strained(m, vectors, sets, &way[CURRENTS + k], by, first, end) < 15 {
         return false;
     }
-    sink(way, vectors, k, by);
     sets::spare(sets, spared);
+    ties::sink(vectors, sets, &way[k], &way[CURRENTS + k], by);
     sets::tie(sets, spared, keeps);
     true
 }
@@ -128,7 +67,7 @@ fn follow_sparing(
 pub fn follow(
     m: &[[f64; 15]; 15],
     notes: &[usize; 96],
-    way: &[[f64; 34]; 15],
+    way: &[[f64; 15]; 34],
     vectors: &mut [[f64; 15]; 3],
     sets: &mut [[usize; 15]; 3],
     k: usize,
@@ -140,9 +79,9 @@ pub fn follow(
     requires { ⌜ (k < 15) × (r < 15) × (s < 15) × (end ≤ 15) ⌝ }
 {
     let below = whole::fraction(vectors[ties::AT][r] - vectors[ties::AT][s]);
-    let by_r = below * way[k][COSTS];
-    let by_s = (1.0 - below) * way[k][COSTS + 1];
-    if by_s * way[k][COSTS + 3] < by_r * way[k][COSTS + 2] {
+    let by_r = below * way[COSTS][k];
+    let by_s = (1.0 - below) * way[COSTS + 1][k];
+    if by_s * way[COSTS + 3][k] < by_r * way[COSTS + 2][k] {
         return follow_sparing(m, notes, way, vectors, sets, k, s, r, by_s, first, end);
     }
     follow_sparing(m, notes, way, vectors, sets, k, r, s, by_r, first, end)

@@ -4,10 +4,10 @@ use Rattle.guess.proofs.newton.largest.Statement.{statement}
 use Rattle.guess.proofs.newton.largest.Tie as tie
 
 abbrev Inv-loop : tie.InvT-loop
-Inv-loop board nets nodes most₀ k₀ most k = (nodes ≤ 15)
+Inv-loop board enters nodes most₀ k₀ most k = (nodes ≤ 15)
 
 abbrev μ-loop : tie.MeasureT-loop
-μ-loop board nets nodes most₀ k₀ most k = nodes - k
+μ-loop board enters nodes most₀ k₀ most k = nodes - k
 
 nodes-requires : tie.Need-nodes-requires Inv-loop μ-loop
 nodes-requires c κs = search needs

@@ -28,6 +28,9 @@ damping-requires c κs = search needs
 go-requires : tie.Need-go-requires Inv-loop μ-loop
 go-requires c κs = search needs
 
+goes-whole-requires : tie.Need-goes-whole-requires Inv-loop μ-loop
+goes-whole-requires c κs = search needs
+
 hold-requires : tie.Need-hold-requires Inv-loop μ-loop
 hold-requires c κs = search needs
 
@@ -58,6 +61,7 @@ rounds-spec =
     returns-2
     damping-requires
     go-requires
+    goes-whole-requires
     hold-requires
     returns-3
     add-round

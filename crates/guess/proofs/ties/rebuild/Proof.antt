@@ -24,11 +24,14 @@ loop-holds c = search needs
 spared-requires : tie.Need-spared-requires Inv-loop μ-loop
 spared-requires c κs = search needs
 
-answer-requires : tie.Need-answer-requires Inv-loop μ-loop
-answer-requires c κs = search needs
-
 spare-requires : tie.Need-spare-requires Inv-loop μ-loop
 spare-requires c κs = search needs
+
+mul-level : tie.Need-mul-level Inv-loop μ-loop
+mul-level c = search needs
+
+index-1-level : tie.Need-index-1-level Inv-loop μ-loop
+index-1-level c = search needs
 
 keeps-requires : tie.Need-keeps-requires Inv-loop μ-loop
 keeps-requires c κs = search needs
@@ -59,8 +62,9 @@ rebuild-spec =
     element-set-from-sums
     loop-holds
     spared-requires
-    answer-requires
     spare-requires
+    mul-level
+    index-1-level
     keeps-requires
     level-requires
     add-k

@@ -1,13 +1,13 @@
 use Prim.Native.Nat.{_-_, _≤_}
 use borrow.Author.Needs.{needs}
-use Rattle.guess.proofs.newton.remaining.Statement.{statement}
-use Rattle.guess.proofs.newton.remaining.Tie as tie
+use Rattle.guess.proofs.newton.entering.Statement.{statement}
+use Rattle.guess.proofs.newton.entering.Tie as tie
 
 abbrev Inv-loop : tie.InvT-loop
-Inv-loop board stretches stored volts exact nodes left₀ k₀ left k = nodes ≤ 15
+Inv-loop board stretches stored volts exact nodes enters₀ k₀ enters k = nodes ≤ 15
 
 abbrev μ-loop : tie.MeasureT-loop
-μ-loop board stretches stored volts exact nodes left₀ k₀ left k = nodes - k
+μ-loop board stretches stored volts exact nodes enters₀ k₀ enters k = nodes - k
 
 taken-requires : tie.Need-taken-requires Inv-loop μ-loop
 taken-requires c κs = search needs
@@ -33,11 +33,11 @@ array-copy-out-nearest-i64-to-f64 c = search needs
 nearest-i64-to-f64-requires : tie.Need-nearest-i64-to-f64-requires Inv-loop μ-loop
 nearest-i64-to-f64-requires c κs = search needs
 
-mul-left : tie.Need-mul-left Inv-loop μ-loop
-mul-left c = search needs
+mul-enters : tie.Need-mul-enters Inv-loop μ-loop
+mul-enters c = search needs
 
-array-write-left : tie.Need-array-write-left Inv-loop μ-loop
-array-write-left c = search needs
+array-write-enters : tie.Need-array-write-enters Inv-loop μ-loop
+array-write-enters c = search needs
 
 add-k : tie.Need-add-k Inv-loop μ-loop
 add-k c = search needs
@@ -51,8 +51,8 @@ loop-again c = search needs
 returns : tie.Need-returns Inv-loop μ-loop
 returns c = search needs
 
-pub remaining-spec : {M : Type 1} → statement M
-remaining-spec =
+pub entering-spec : {M : Type 1} → statement M
+entering-spec =
     tie.close
     (tie.spec
     Inv-loop
@@ -65,8 +65,8 @@ remaining-spec =
     mul-nearest-i64-to-f64
     array-copy-out-nearest-i64-to-f64
     nearest-i64-to-f64-requires
-    mul-left
-    array-write-left
+    mul-enters
+    array-write-enters
     add-k
     loop-less
     loop-again
