@@ -3,7 +3,7 @@ use mathlib.Core.Path.{_≡_, refl, sym, _∙_, subst}
 use mathlib.Core.Bool.{Bool, true, false, false≢true, cond}
 use mathlib.Core.List.{List}
 use mathlib.Core.Logic.{_⊎_, inl, inr, ⊎-elim}
-use Prim.Native.Nat.{ℕ, suc, _-_, _≤_, _<_}
+use Prim.Native.Nat.{ℕ, zero, suc, _-_, _≤_, _<_}
 use native.Mathlib.Omega.{arith}
 use native.Mathlib.Nat.{le-refl}
 use lib.IntN.{ℤ, pos, _+ℤ_, _-ℤ_}
@@ -13,15 +13,17 @@ use Rattle.units.specs.Voltage.{voltageLimit, InRange, belowTop}
 use Rattle.units.proofs.Integers.{signs, add-law, sub-law, neg-law, pos-law, abs-law, decideN, ltZ-true, ltZ-false}
 use Rattle.units.proofs.Sizes.{abs-within}
 use Rattle.network.specs.Network.{Network, Wired, Free, reading, net}
-use Rattle.network.specs.Sample.{Legal, Low, Answer}
-use Rattle.network.specs.Search.{raised, Visit, height}
+use Rattle.network.specs.Sample.{Legal, Low, Under, Answer}
+use Rattle.network.specs.Search.{lowered, raised, Visit, Through, height}
 use Rattle.network.proofs.Measures.{height-falls-list, depth-falls}
 use Rattle.network.proofs.Nodes.{by-node}
-use Rattle.network.proofs.Certify.{raised-free, raised-top, raised-fixed, visit-start, visit-more-list, visit-law, visit-over, stuck, certify}
+use Rattle.network.proofs.Compare.{others-rise}
+use Rattle.network.proofs.Lowering.{lowered-law, lowered-here, lowered-under}
+use Rattle.network.proofs.Certify.{raised-free, raised-top, raised-fixed, visit-start, visit-more, visit-more-list, visit-law, visit-over, stuck, certify}
 use Rattle.circuit.specs.Board.{nodesOn, drivenOn, networkOn, Ranged, Evaluable}
 use Rattle.solve.specs.Search.{Searching, LowAt}
 use Rattle.solve.specs.Climb.{Risen}
-use Rattle.solve.specs.Visit.{oneUp, Raised, Visiting, Waiting, Stuck}
+use Rattle.solve.specs.Visit.{oneUp, Raised, Visiting, Waiting, Stuck, AllGo}
 use Rattle.solve.proofs.PlaceLaws.{set-cases, short-of}
 
 -- ---- where it starts
@@ -174,6 +176,63 @@ module _ {board : List ℕ} {stretches stored volts before : List ℤ} where
       pub lap-sticks : went ≡ false → wait ≡ true → Waiting board stretches volts after × Stuck board stretches stored volts after
       lap-sticks e n = let w = h .waiting n in (record { node = w .0; free = w .1; waits = w .3 }, λ j f. h .still e j f (omega (arith, f .0)))
 
+-- ---- a visit in which all that wait may go at once: it gets through, as a node that goes back only raises the net currents of the others
+
+module _ {N : Network} {x z s : ℕ → ℤ} (wired : Wired N) (v : Visit N x z s) (go : (i : ℕ) → Free N i → z i <ℤ s i → pos 0 <ℤ net 1 N x s i) where
+  -- the nodes below n have gone back, and no node has risen
+  record BackTo (n : ℕ) : Type 0 where
+    place : ℕ → ℤ
+    visit : Visit N x z place
+    under : Under N place s
+    back : (j : ℕ) → j < n → j ≤ N .nodes → place j ≡ z j
+
+  -- node n stands where it did: it goes back if it waits
+  module _ {n : ℕ} (there : n ≤ N .nodes) (b : BackTo n) where
+    was-back : b .place n ≡ z n → BackTo (suc n)
+    was-back e = record {
+      place = b .place;
+      visit = b .visit;
+      under = b .under;
+      back = λ j l. ⊎-elim (λ (m : suc j ≤ n). b .back j m) (λ (m : n < suc j). let q : j ≡ n = omega arith in rw q (λ h. e)) (decideN (suc j) n);
+    }
+
+    module _ (free : Free N n) (one : b .place n ≡ z n +ℤ pos 1) where
+      -- all the way from s
+      stood : s n ≤ℤ b .place n
+      stood = ⊎-elim
+          (λ (e : s n ≡ z n). omega (signs, e, one, add-law (z n) (pos 1), pos-law 1))
+          (λ (e : (s n ≡ z n +ℤ pos 1) × Free N n × (z n <ℤ pos voltageLimit)). omega (signs, e .0, one))
+          (visit-law N x z s v n there)
+
+      waits : z n <ℤ b .place n
+      waits = omega (signs, one, add-law (z n) (pos 1), pos-law 1)
+
+      high : pos 0 <ℤ net 1 N x (b .place) n
+      high = omega (signs, go n free (omega (signs, waits, b .under n there)), others-rise 1 N x (b .place) s n wired (b .under) stood)
+
+      goes : BackTo (suc n)
+      goes = record {
+        place = lowered (b .place) n 1;
+        visit = visit-more N x z (b .place) n (b .visit) free waits high;
+        under = λ j l. omega (signs, lowered-under (b .place) n 1 j, b .under j l);
+        back = λ j l h. ⊎-elim
+            (λ (e : (j ≡ n) × (lowered (b .place) n 1 j ≡ b .place j -ℤ pos 1)). rw (e .0) (omega (signs, lowered-here (b .place) n 1, one, add-law (z n) (pos 1), sub-law (b .place n) (pos 1))))
+            (λ (e : (j ≡ n → ⊥) × (lowered (b .place) n 1 j ≡ b .place j)). e .1 ∙ b .back j (omega (arith, e .0)) h)
+            (lowered-law (b .place) n 1 j);
+      }
+
+    back-more : BackTo (suc n)
+    back-more = ⊎-elim was-back
+        (λ (e : (b .place n ≡ z n +ℤ pos 1) × Free N n × (z n <ℤ pos voltageLimit)). goes (e .1) (e .0))
+        (visit-law N x z (b .place) (b .visit) n there)
+
+  back-to : (n : ℕ) → n ≤ suc (N .nodes) → BackTo n
+  back-to zero l = record { place = s; visit = v; under = λ j h. omega signs; back = λ j m. absurd (omega arith) }
+  back-to (suc n) l = back-more (omega arith) (back-to n (omega arith))
+
+  pub all-through : Through N x z
+  all-through = let b = back-to (suc (N .nodes)) (omega arith) in record { place = b .place; visit = b .visit; back = λ j l. b .back j (omega arith) l }
+
 -- ---- the end of the visit
 
 module _ {board : List ℕ} {stretches stored volts s w : List ℤ} (v : Visiting board stretches stored volts s w) where
@@ -182,6 +241,11 @@ module _ {board : List ℕ} {stretches stored volts s w : List ℤ} (v : Visitin
 
   pub judged-highest : ((j : ℕ) → j ≤ nodesOn board → reading s j ≡ reading volts j) → (d : ℕ → ℤ) → Legal (networkOn board stretches) d (reading volts) → Low (networkOn board stretches) (reading stored) (reading volts) → Answer (networkOn board stretches) (reading stored) d (reading volts)
   judged-highest back d legal low = certify (networkOn board stretches) (reading stored) d (reading volts) wired legal low (record { place = reading s; visit = v .visit; back = back })
+
+  pub judged-at-once : AllGo board volts s w → (d : ℕ → ℤ) → Legal (networkOn board stretches) d (reading volts) → Low (networkOn board stretches) (reading stored) (reading volts) → Answer (networkOn board stretches) (reading stored) d (reading volts)
+  judged-at-once go d legal low =
+      certify (networkOn board stretches) (reading stored) d (reading volts) wired legal low
+      (all-through wired (v .visit) (λ i f waits. rw (v .searching .netted .each i (f .1)) at (go i (f .0) (f .1) waits)))
 
   pub judged-higher : Waiting board stretches volts s → Stuck board stretches stored volts s → Risen board stretches stored volts s
   judged-higher w sticks =

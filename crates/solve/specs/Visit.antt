@@ -10,7 +10,7 @@ use Rattle.units.specs.Voltage.{belowTop}
 use Rattle.network.specs.Network.{Free, reading, net}
 use Rattle.network.specs.Sample.{Legal, Low, Answer}
 use Rattle.network.specs.Search.{Visit, height}
-use Rattle.circuit.specs.Board.{nodesOn, networkOn, Ranged}
+use Rattle.circuit.specs.Board.{nodesOn, drivenOn, networkOn, Ranged}
 use Rattle.solve.specs.Search.{Searching, Changed, LowAt}
 use Rattle.solve.specs.Climb.{Risen}
 use Rattle.solve.specs.declared.certify.Stance.{Stance}
@@ -56,6 +56,10 @@ abbrev pub VisitedAll : (board : List ℕ) (stretches stored volts before after 
 VisitedAll board stretches stored volts before after Through = (j : ℕ) → j ≤ nodesOn board → reading after j ≡ reading volts j
 VisitedAll board stretches stored volts before after Sticks = Waiting board stretches volts after × Stuck board stretches stored volts after
 VisitedAll board stretches stored volts before after Went = height (networkOn board stretches) (reading after) < height (networkOn board stretches) (reading before)
+
+-- every node that waits may go back, the net currents being w
+abbrev pub AllGo : (board : List ℕ) (volts s w : List ℤ) → Type 0
+AllGo board volts s w = (i : ℕ) → drivenOn board < i → i ≤ nodesOn board → reading volts i <ℤ reading s i → pos 0 <ℤ reading w i
 
 -- what came of the whole visit: `volts` is the answer if it is legal and low, or s is higher
 abbrev pub Judged : (board : List ℕ) (stretches stored volts s : List ℤ) → Verdict → Type 0

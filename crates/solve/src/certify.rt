@@ -1,18 +1,23 @@
 // Certify: whether a low assignment is the greatest, by a visit of its nodes. Every free node below
 // the top is raised by one and waits; a waiting node whose net current is above zero goes back. If
-// all get back, nothing higher is low; if the visit sticks, it has come to something that is.
+// all get back, nothing higher is low; if the visit sticks, it has come to something that is. Mostly
+// all may go back at once, and then none has to be moved: what goes back only raises the others' net
+// currents.
 use crate::put;
 use circuit::board;
 use circuit::shift;
 use units::signed;
 use units::voltage::Voltage;
 ghost use mathlib.Core.Path.{_≡_};
-ghost use Prim.Native.Nat.{_<_};
+ghost use mathlib.Core.Bool.{true, false};
+ghost use Prim.Native.Nat.{_≤_, _<_};
+ghost use lib.IntN.{pos};
+ghost use lib.Signed.{_<ℤ_};
 ghost use Rattle.units.specs.Voltage.{InRange};
 ghost use Rattle.network.specs.Network.{Free};
-ghost use Rattle.circuit.specs.Board.{networkOn, Ranged};
+ghost use Rattle.circuit.specs.Board.{nodesOn, drivenOn, networkOn, Ranged};
 ghost use Rattle.solve.specs.Search.{Searching};
-ghost use Rattle.solve.specs.Visit.{oneUp, Raised, Visiting, VisitedAt, VisitedAll, Judged};
+ghost use Rattle.solve.specs.Visit.{oneUp, Raised, Visiting, VisitedAt, VisitedAll, AllGo, Judged};
 
 // What came of one node: it was back, it waits still, or it goes back.
 pub enum Stance {
@@ -132,8 +137,34 @@ fn visit_all(
     Lap::Through
 }
 
+// Whether a node that stands at s, its net current being w, waits to go back to v and may not.
+fn sticks(v: i64, s: i64, w: i64) -> bool
+    ensures { λ r. ⌜ (r ≡ false → v <ℤ s → pos 0 <ℤ w) ⌝ }
+{
+    if signed::at_most(s, v) {
+        return false;
+    }
+    signed::at_most(w, 0)
+}
+
+// Whether every node that waits may go back as they all stand.
+fn all_go(board: &[u64; 293], volts: &[i64; 16], s: &[i64; 16], w: &[i64; 16]) -> bool
+    requires { ⌜ (nodesOn (now board) ≤ 15) × (drivenOn (now board) ≤ nodesOn (now board)) ⌝ }
+    ensures { λ r. ⌜ (r ≡ true → AllGo (now (board .entry)) (now (volts .entry)) (now (s .entry)) (now (w .entry))) ⌝ }
+{
+    let last = board::nodes(board);
+    let mut i = board::driven(board) + 1;
+    while i <= last {
+        if sticks(volts[i], s[i], w[i]) {
+            return false;
+        }
+        i += 1;
+    }
+    true
+}
+
 // The whole visit for `volts`; s and w begin as copies of them and of their net currents, and are the
-// higher one and its net currents if there is one.
+// higher one and its net currents if there is one. Nodes are moved only if not all may go back at once.
 pub fn certify(
     board: &[u64; 293],
     stretches: &[i64; 408],
@@ -146,6 +177,9 @@ pub fn certify(
     ensures { λ r. ⌜ Searching (now (board .entry)) (now (stretches .entry)) (now (stored .entry)) (now (s .exit)) (now (w .exit)) × Judged (now (board .entry)) (now (stretches .entry)) (now (stored .entry)) (now (volts .entry)) (now (s .exit)) r ⌝ }
 {
     lift(board, stretches, stored, volts, s, w);
+    if all_go(board, volts, s, w) {
+        return Verdict::Highest;
+    }
     loop {
         match visit_all(board, stretches, stored, volts, s, w) {
             Lap::Through => {
