@@ -1,86 +1,93 @@
 -- The whole search: where it begins, and that each way to its end is the answer or none. Assumes nothing.
 use mathlib.Core.Path.{_≡_, refl, sym, _∙_}
-use mathlib.Core.Bool.{Bool, true}
+use mathlib.Core.Bool.{Bool, true, false}
 use mathlib.Core.List.{List}
-use Prim.Native.Nat.{ℕ, zero, suc, _≤_, _<_}
+use mathlib.Core.Logic.{inl}
+use Prim.Native.Nat.{ℕ, zero, suc, _+_, _≤_}
 use native.Mathlib.Omega.{arith}
 use lib.IntN.{ℤ, pos}
-use lib.Seq.{getD-set-same, getD-set-other}
+use lib.ListN.{length, set}
+use lib.Seq.{getD-set-same}
 use Rattle.units.specs.Voltage.{InRange}
 use Rattle.units.proofs.Integers.{scale-one}
+use Rattle.units.proofs.Clamping.{clamped-ranged}
 use Rattle.network.specs.Network.{Network, reading}
 use Rattle.network.specs.Sample.{Legal, Above}
 use Rattle.network.proofs.Nodes.{by-node}
 use Rattle.network.proofs.Hold.{start, top-start}
 use Rattle.network.proofs.Ranges.{legal-in-range}
 use Rattle.network.proofs.Settle.{settling-start, settled-answer, none-empty}
-use Rattle.circuit.specs.Board.{nodesOn, drivenOn, networkOn, Ready, Evaluable}
+use Rattle.circuit.specs.Board.{nodesOn, drivenOn, networkOn, Evaluable}
+use Rattle.circuit.specs.Nets.{Netted}
+use Rattle.circuit.specs.Places.{Taken}
 use Rattle.solve.specs.declared.settle.Rest.{Rest}
 use Rattle.solve.specs.declared.settle.Rest.the-variants.{Found, Nothing}
-use Rattle.solve.specs.Search.{Down, Nowhere, Came}
+use Rattle.solve.specs.Search.{Searching, Changed, Down, Nowhere, Came}
 use Rattle.solve.specs.Climb.{Topped}
-use Rattle.solve.specs.Answer.{drivesAt, SeatedAt, Seated, Start, Ended, Solvable, Solved}
+use Rattle.solve.specs.Answer.{drivesAt, seatOf, Seated, Start, Solvable, Solved}
 
 -- ---- where it begins
 
-module _ {board : List ℕ} {top : Bool} {before after : List ℤ} (seated : Seated board top before after) where
-  pub ground : reading after 0 ≡ pos 0
-  ground = seated .places .same 0 (omega arith) ∙ getD-set-same before 0 (pos 0) (pos 0) (omega (arith, seated .long))
+-- ground's place stored, the drives taken over and the free nodes seated
+pub seated-all : {board : List ℕ} {top : Bool} {given drives after : List ℤ} (before : List ℤ) → length before ≡ 16 → Taken given 1 (drivenOn board + 1) (set before 0 (pos 0)) drives → Changed (λ (j : ℕ) (u : ℤ). u ≡ seatOf top (reading given j)) board drives after (suc (nodesOn board)) → Seated board top given after
+seated-all before long t h = record {
+  long = h .long;
+  ground = h .same 0 (omega arith) ∙ t .elsewhere 0 (inl (omega arith)) ∙ getD-set-same before 0 (pos 0) (pos 0) (omega (arith, long));
+  driven = λ j l. h .same (suc j) l ∙ t .taken (suc j) (omega arith) (omega arith);
+  free = λ j a b. h .free j a (omega arith);
+}
 
-  -- the driven nodes keep their drives
-  driven : (j : ℕ) → suc j ≤ drivenOn board → reading after (suc j) ≡ reading before (suc j)
-  driven j l = seated .places .same (suc j) l ∙ getD-set-other before 0 (suc j) (pos 0) (pos 0) (λ e. omega (arith, e))
+seat-ranged : (top : Bool) (v : ℤ) → InRange (seatOf top v)
+seat-ranged true v = omega arith
+seat-ranged false v = clamped-ranged v
 
-  free : (j : ℕ) → drivenOn board < j → j ≤ nodesOn board → SeatedAt top (reading after j)
-  free j a b = seated .places .free j a (omega arith)
+module _ {board : List ℕ} {top : Bool} {given after : List ℤ} (seated : Seated board top given after) where
+  seated-legal : (stretches : List ℤ) → Legal (networkOn board stretches) (drivesAt given) (reading after)
+  seated-legal stretches = record {
+    drives = record { ground = seated .ground; driven = λ j l. seated .driven j l ∙ sym (scale-one (drivesAt given j)) };
+    range = λ i f. rw (seated .free i (f .0) (f .1)) (seat-ranged top (reading given i));
+  }
 
-  module _ (stretches : List ℤ) (d : ℕ → ℤ) where
-    seated-legal : ((j : ℕ) → j < drivenOn board → reading before (suc j) ≡ d j) → Legal (networkOn board stretches) d (reading after)
-    seated-legal drives = record { drives = record { ground = ground; driven = λ j l. driven j l ∙ drives j l ∙ sym (scale-one (d j)) }; range = λ i f. free i (f .0) (f .1) .ranged }
+  -- what a search begins with
+  pub seated-evaluable : {stretches stored : List ℤ} → Solvable board stretches stored given → Evaluable board stretches stored after
+  seated-evaluable {stretches} s = record { ready = s .ready; kept = s .kept; ranged = legal-in-range (networkOn board stretches) (drivesAt given) (reading after) (seated-legal stretches) (s .drives) }
 
-    pub seated-again : Legal (networkOn board stretches) d (reading before) → Legal (networkOn board stretches) d (reading after)
-    seated-again legal = seated-legal (λ j l. legal .drives .driven j l ∙ scale-one (d j))
+  pub seated-searching : {stretches stored nets : List ℤ} → Solvable board stretches stored given → Netted board stretches stored after nets → Searching board stretches stored after nets
+  seated-searching s netted = record { evaluable = seated-evaluable s; long = seated .long; ground = seated .ground; netted = netted }
 
-  pub seated-own : (stretches : List ℤ) → Legal (networkOn board stretches) (drivesAt before) (reading after)
-  seated-own stretches = seated-legal stretches (drivesAt before) (λ j l. refl)
-
-  -- what a search begins with, from voltages in range or from the drives
-  pub seated-evaluable : {stretches stored : List ℤ} → Evaluable board stretches stored before → Evaluable board stretches stored after
-  seated-evaluable {stretches} e = record { ready = e .ready; kept = e .kept; ranged = by-node (networkOn board stretches) (λ (j : ℕ). InRange (reading after j)) fixed (λ j f. free j (f .0) (f .1) .ranged) }
+  -- seated once more, every node is where it was
+  seated-once : {again : List ℤ} → Seated board top given again → (stretches : List ℤ) (j : ℕ) → j ≤ nodesOn board → reading after j ≡ reading again j
+  seated-once {again} other stretches = by-node (networkOn board stretches) (λ (j : ℕ). reading after j ≡ reading again j) fixed (λ j f. seated .free j (f .0) (f .1) ∙ sym (other .free j (f .0) (f .1)))
     where
-      fixed : (j : ℕ) → j ≤ drivenOn board → InRange (reading after j)
-      fixed zero l = rw ground (omega arith)
-      fixed (suc j) l = rw (driven j l) (e .ranged (suc j) (omega (arith, e .ready .laid .limits .wired .driven-there)))
-
-  pub seated-begun : {stretches stored : List ℤ} → Solvable board stretches stored before → Evaluable board stretches stored after
-  seated-begun {stretches} s = record { ready = s .ready; kept = s .kept; ranged = legal-in-range (networkOn board stretches) (drivesAt before) (reading after) (seated-own stretches) (s .drives) }
+      fixed : (j : ℕ) → j ≤ drivenOn board → reading after j ≡ reading again j
+      fixed zero l = seated .ground ∙ sym (other .ground)
+      fixed (suc j) l = seated .driven j l ∙ sym (other .driven j l)
 
 -- ---- how it ends
 
-module _ (board : List ℕ) (stretches stored before after : List ℤ) where
+module _ (board : List ℕ) (stretches stored given after : List ℤ) where
   abbrev N : Network
   N = networkOn board stretches
 
   -- from the top
-  module _ {top : List ℤ} (seated : Seated board true before top) where
-    above : (d : ℕ → ℤ) → Legal (networkOn board stretches) d (reading before) → Above (networkOn board stretches) (reading stored) d (reading top)
-    above d legal = top-start N (reading stored) d (reading top) (seated-again seated stretches d legal .drives) (λ i f. seated .places .free i (f .0) (omega (arith, f .1)) .topmost refl)
+  module _ {top : List ℤ} (seated : Seated board true given top) where
+    above : Above (networkOn board stretches) (reading stored) (drivesAt given) (reading top)
+    above = top-start N (reading stored) (drivesAt given) (reading top) (seated-legal seated stretches .drives) (λ i f. seated .free i (f .0) (f .1))
 
-    pub top-ended : (r : Rest) → Came board stretches stored top after r → Ended board stretches stored before after r
-    top-ended Found h = λ d legal. settled-answer N (reading stored) d (reading top) (reading after) (above d legal) (record { settling = h .0 .settling d (reading top) (settling-start N (reading stored) d (reading top) (seated-again seated stretches d legal)); low = h .1 })
-    top-ended Nothing h = λ d legal. none-empty N (reading stored) d (reading top) (above d legal) (h d (reading top) (settling-start N (reading stored) d (reading top) (seated-again seated stretches d legal)))
+    pub top-solved : (r : Rest) → Came board stretches stored top after r → Solved board stretches stored given after r
+    top-solved Found h = settled-answer N (reading stored) (drivesAt given) (reading top) (reading after) above (record { settling = h .0 .settling (drivesAt given) (reading top) (settling-start N (reading stored) (drivesAt given) (reading top) (seated-legal seated stretches)); low = h .1 })
+    top-solved Nothing h = none-empty N (reading stored) (drivesAt given) (reading top) above (h (drivesAt given) (reading top) (settling-start N (reading stored) (drivesAt given) (reading top) (seated-legal seated stretches)))
 
   -- from a proposal: settled and climbed
-  pub climbed : {rest : List ℤ} → Down board stretches stored before rest → Topped board stretches stored rest after → Ended board stretches stored before after Found
-  climbed down topped d legal = topped d (down .settling d (reading before) (settling-start N (reading stored) d (reading before) legal) .legal)
+  module _ {begun : List ℤ} (seated : Seated board false given begun) where
+    pub climbed : {rest : List ℤ} → Down board stretches stored begun rest → Topped board stretches stored rest after → Solved board stretches stored given after Found
+    climbed down topped = topped (drivesAt given) (down .settling (drivesAt given) (reading begun) (settling-start N (reading stored) (drivesAt given) (reading begun) (seated-legal seated stretches)) .legal)
 
-  -- nothing below a start
-  pub start-nothing : Ready board stretches → Start board stretches stored before → Nowhere board stretches stored before → Ended board stretches stored before after Nothing
-  start-nothing ready st none d legal =
-      none-empty N (reading stored) d (reading before) (start N (reading stored) d (reading before) (ready .laid .limits .wired) (ready .laid .limits .leaks) (legal .drives) st)
-      (none d (reading before) (settling-start N (reading stored) d (reading before) legal))
-
-  -- the drives are those that the driven nodes stood at
-  pub own-ended : {top : Bool} {seat : List ℤ} → Seated board top before seat → (r : Rest) → Ended board stretches stored seat after r → Solved board stretches stored before after r
-  own-ended seated Found h = h (drivesAt before) (seated-own seated stretches)
-  own-ended seated Nothing h = h (drivesAt before) (seated-own seated stretches)
+    -- nothing below it, and once more seated it is a start
+    pub start-nothing : {again : List ℤ} → Solvable board stretches stored given → Seated board false given again → Start board stretches stored again → Nowhere board stretches stored begun → Solved board stretches stored given after Nothing
+    start-nothing {again} s other st none = none-empty N (reading stored) (drivesAt given) (reading begun) over (none (drivesAt given) (reading begun) (settling-start N (reading stored) (drivesAt given) (reading begun) (seated-legal seated stretches)))
+      where
+        over : Above (networkOn board stretches) (reading stored) (drivesAt given) (reading begun)
+        over w legal low j l =
+            rw (seated-once seated other stretches j l)
+            (start N (reading stored) (drivesAt given) (reading again) (s .ready .laid .limits .wired) (s .ready .laid .limits .leaks) (seated-legal other stretches .drives) st w legal low j l)

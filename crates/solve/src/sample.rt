@@ -9,8 +9,11 @@ use units::number;
 use units::number::Number;
 use units::voltage::Voltage;
 ghost use mathlib.Core.Bool.{true};
-ghost use Prim.Native.Nat.{_≤_, _<_};
+ghost use mathlib.Core.Path.{_≡_};
+ghost use Prim.Native.Nat.{_+_, _≤_, _<_};
+ghost use lib.ListN.{length};
 ghost use Rattle.circuit.specs.Board.{nodesOn, drivenOn, networkOn};
+ghost use Rattle.circuit.specs.Places.{Taken};
 ghost use Rattle.solve.specs.Answer.{drivesAt};
 ghost use Rattle.solve.specs.Sample.{DrivesTested, TopTested, Playable, Sampled, Leaves};
 
@@ -54,17 +57,18 @@ fn at_top(board: &[u64; 293], volts: &[i64; 16]) -> bool
     false
 }
 
-// A sample whose drives are legal.
+// A sample whose drives are legal. Its voltages are left in `volts`; what is given stays.
 fn voiced(
     board: &[u64; 293],
     stretches: &[i64; 408],
+    given: &[i64; 16],
     volts: &mut [i64; 16],
     stored: &mut [i64; 32],
 ) -> Number
-    requires { ⌜ Playable (now board) (now stretches) (now stored) × DrivesTested (now board) (now volts) true ⌝ }
-    ensures { λ r. ⌜ Sampled (networkOn (now (board .entry)) (now (stretches .entry))) (drivesAt (now (volts .entry))) (now (stored .entry)) (now (stored .exit)) (now (volts .exit)) r ⌝ }
+    requires { ⌜ Playable (now board) (now stretches) (now stored) × DrivesTested (now board) (now given) true × (length (now volts) ≡ 16) ⌝ }
+    ensures { λ r. ⌜ Sampled (networkOn (now (board .entry)) (now (stretches .entry))) (drivesAt (now (given .entry))) (now (stored .entry)) (now (stored .exit)) (now (volts .exit)) r ⌝ }
 {
-    match answer::solve(board, stretches, stored, volts) {
+    match answer::solve(board, stretches, stored, given, volts) {
         settle::Rest::Nothing => Number::Rail,
         settle::Rest::Found => {
             if at_top(board, volts) {
@@ -76,6 +80,16 @@ fn voiced(
             }
         }
     }
+}
+
+// The nodes of an accepted sample taken over. That there are 16 places a reference does not tell, and a
+// copy does; it is not used, and the compiler leaves it out.
+fn hand_over(board: &[u64; 293], found: &[i64; 16], volts: &mut [i64; 16])
+    requires { ⌜ nodesOn (now board) ≤ 15 ⌝ }
+    ensures { λ _. ⌜ Taken (now (found .entry)) 0 (nodesOn (now (board .entry)) + 1) (now (volts .entry)) (now (volts .exit)) ⌝ }
+{
+    places::copied(volts);
+    places::take(found, 0, board::nodes(board) + 1, volts);
 }
 
 // The driven nodes stand at the sample's drives; the free nodes at any proposal. The search has an array
@@ -92,10 +106,10 @@ pub fn sample(
     if !drives_legal(board, volts) {
         return Number::Drive;
     }
-    let mut found = places::copied(volts);
-    let answer = voiced(board, stretches, &mut found, stored);
+    let mut found = [0i64; 16];
+    let answer = voiced(board, stretches, volts, &mut found, stored);
     if number::value(answer) == 0 {
-        places::take(&found, 0, board::nodes(board) + 1, volts);
+        hand_over(board, &found, volts);
     }
     answer
 }

@@ -1,4 +1,4 @@
-use mathlib.Core.Path.{sym, _∙_}
+use mathlib.Core.Path.{refl, sym, _∙_}
 use native.Mathlib.Omega.{arith}
 use Rattle.solve.proofs.SampleLaws.{drive-refused, heard, unheard}
 use borrow.Author.Needs.{needs}
@@ -14,37 +14,22 @@ returns c =
     let a = c .before .before .before .args in
     unheard {v = a .volts .now} (drive-refused (a .board .now) (a .stretches .now) (a .volts .now) (a .stored .now) (rw (not-true (c .before .drives-legal .result) (c .if1 .taken)) at (c .before .drives-legal .ensures))) (λ e. omega (arith, e))
 
-copied-requires : tie.Need-copied-requires
-copied-requires c κs = search needs
-
 voiced-requires : tie.Need-voiced-requires
 voiced-requires c κs =
-    let legal = rw (not-false (c .before .before .before .before .before .drives-legal .result) (c .before .before .before .before .if1 .left)) at (c .before .before .before .before .before .drives-legal .ensures) in
-    (c .before .before .before .before .before .before .before .pre, rw (c .before .before .copied .ensures .0) legal)
+    let legal = rw (not-false (c .before .before .before .before .drives-legal .result) (c .before .before .before .if1 .left)) at (c .before .before .before .before .drives-legal .ensures) in
+    (c .before .before .before .before .before .before .pre, legal, refl)
 
 value-requires : tie.Need-value-requires
 value-requires c κs = search needs
 
-nodes-requires : tie.Need-nodes-requires
-nodes-requires c κs = search needs
-
-add-take : tie.Need-add-take
-add-take c = search needs
-
-take-requires : tie.Need-take-requires
-take-requires c κs = search needs
+hand-over-requires : tie.Need-hand-over-requires
+hand-over-requires c κs = c .before .before .before .before .before .before .before .before .before .before .before .pre .ready .laid .limits .few-nodes
 
 returns-2 : tie.Need-returns-2
-returns-2 c =
-    let s = c .before .before .before .before .before .before .before .before .before .before .before .before .before .before in
-    let a = s .args in
-    let came = rw (c .before .before .before .before .before .before .before .before .before .copied .ensures .0) at (c .before .before .before .before .before .before .voiced .ensures) in
-    heard came (s .pre .ready .laid .limits .wired) (sym (c .before .before .before .before .before .value .ensures) ∙ c .before .before .before .before .if2 .taken) (rw (c .before .before .nodes .ensures) at (c .take .ensures))
+returns-2 c = heard (c .before .before .before .before .before .voiced .ensures) (c .before .before .before .before .before .before .before .before .before .before .before .before .pre .ready .laid .limits .wired) (sym (c .before .before .before .before .value .ensures) ∙ c .before .before .before .if2 .taken) (c .hand-over .ensures)
 
 returns-3 : tie.Need-returns-3
-returns-3 c =
-    let came = rw (c .before .before .before .before .before .copied .ensures .0) at (c .before .before .voiced .ensures) in
-    unheard came (λ e. c .if2 .left (c .before .value .ensures ∙ e))
+returns-3 c = unheard (c .before .before .voiced .ensures) (λ e. c .if2 .left (c .before .value .ensures ∙ e))
 
 pub sample-spec : {M : Type 1} → statement M
 sample-spec =
@@ -52,11 +37,8 @@ sample-spec =
     (tie.spec
     drives-legal-requires
     returns
-    copied-requires
     voiced-requires
     value-requires
-    nodes-requires
-    add-take
-    take-requires
+    hand-over-requires
     returns-2
     returns-3)
