@@ -63,7 +63,7 @@ fn stride(
     t
 }
 
-// How far they go on. After many turns at least as far as `reach`: where they bring little the lines were no
+// How far they go on. After TURNS turns at least as far as `reach`: where they bring little the lines were no
 // guide, and a search downwards from too high is the shorter way.
 fn farther(t: u64, reach: u64) -> u64
     requires { ⌜ (t ≤ 2 ^ 26) × (reach ≤ 2 ^ 26) ⌝ }
@@ -78,8 +78,9 @@ fn farther(t: u64, reach: u64) -> u64
     t
 }
 
-// The turns are counted first; then it is twice as far each time, up to the whole range.
-fn doubled(reach: u64) -> u64
+// `reach` counts turns up to TURNS, and is microvolts from there on: twice as many each time, up to half the
+// range.
+fn onward(reach: u64) -> u64
     requires { ⌜ reach ≤ 2 ^ 26 ⌝ }
     ensures { λ r. ⌜ r ≤ 2 ^ 26 ⌝ }
 {
@@ -137,7 +138,7 @@ pub fn climb(
     requires { ⌜ Searching (now board) (now stretches) (now stored) (now volts) (now nets) × Low (networkOn (now board) (now stretches)) (reading (now stored)) (reading (now volts)) ⌝ }
     ensures { λ _. ⌜ Topped (now (board .entry)) (now (stretches .entry)) (now (stored .entry)) (now (volts .entry)) (now (volts .exit)) ⌝ }
 {
-    let mut reach: u64 = 1;
+    let mut reach: u64 = 0;
     loop {
         let mut s = places::copied(volts);
         let mut w = places::copied(nets);
@@ -147,7 +148,7 @@ pub fn climb(
             }
             certify::Verdict::Higher => {
                 let t = farther(stride(board, volts, nets, &s, &w), reach);
-                reach = doubled(reach);
+                reach = onward(reach);
                 raise(board, stretches, stored, volts, t, &mut s, &mut w);
                 *volts = s;
                 *nets = w;

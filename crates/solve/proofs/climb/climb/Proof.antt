@@ -46,8 +46,8 @@ stride-requires c κs = let r = c .before .before .before .before .before .befor
 farther-requires : tie.Need-farther-requires Inv-loop μ-loop
 farther-requires c κs = (c .stride .ensures, search needs)
 
-doubled-requires : tie.Need-doubled-requires Inv-loop μ-loop
-doubled-requires c κs = search needs
+onward-requires : tie.Need-onward-requires Inv-loop μ-loop
+onward-requires c κs = search needs
 
 raise-requires : tie.Need-raise-requires Inv-loop μ-loop
 raise-requires c κs = (c .before .before .before .before .before .before .before .before .before .before .before .before .certify .ensures .0, c .before .before .before .before .farther .ensures)
@@ -66,7 +66,7 @@ loop-less : tie.Need-loop-less Inv-loop μ-loop
 loop-less c = turn c .falls
 
 loop-again : tie.Need-loop-again Inv-loop μ-loop
-loop-again c = let t = turn c in (c .before .before .before .before .before .before .before .doubled .ensures, c .settle .ensures .0, t .low, λ d legal. t .legal d (c .before .before .before .before .before .before .before .before .before .before .before .before .before .before .before .before .before .before .before .before .before .before .before .before .loop .inv .3 d legal))
+loop-again c = let t = turn c in (c .before .before .before .before .before .before .before .onward .ensures, c .settle .ensures .0, t .low, λ d legal. t .legal d (c .before .before .before .before .before .before .before .before .before .before .before .before .before .before .before .before .before .before .before .before .before .before .before .before .loop .inv .3 d legal))
 
 pub climb-spec : {M : Type 1} → statement M
 climb-spec =
@@ -83,7 +83,7 @@ climb-spec =
     enum-told-2
     stride-requires
     farther-requires
-    doubled-requires
+    onward-requires
     raise-requires
     settle-requires
     loop-less
