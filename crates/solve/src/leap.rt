@@ -12,7 +12,7 @@ ghost use lib.IntN.{pos, _-ℤ_, _*ℤ_};
 ghost use lib.Signed.{_<ℤ_};
 ghost use Rattle.units.specs.Voltage.{InRange, bottom};
 ghost use Rattle.network.specs.Network.{Free, reading};
-ghost use Rattle.circuit.specs.Board.{networkOn, Ranged};
+ghost use Rattle.circuit.specs.Board.{nodesOn, drivenOn, networkOn, Ranged};
 ghost use Rattle.solve.specs.Search.{Searching, Down};
 ghost use Rattle.solve.specs.Leap.{Reached, Led, Sinkable, LandedAt, Lands};
 
@@ -60,6 +60,21 @@ fn lead(
         put::put(board, stretches, stored, i, u, far, nets);
         i += 1;
     }
+}
+
+// Whether some node leapt. Nothing is promised of it: it only ends the leaps.
+fn leapt(board: &[u64; 293], volts: &[i64; 16], far: &[i64; 16]) -> bool
+    requires { ⌜ (nodesOn (now board) ≤ 15) × (drivenOn (now board) ≤ nodesOn (now board)) ⌝ }
+{
+    let nodes = board::nodes(board);
+    let mut i = board::driven(board) + 1;
+    while i <= nodes {
+        if signed::less(far[i], volts[i]) {
+            return true;
+        }
+        i += 1;
+    }
+    false
 }
 
 // One node at the far end. If it leapt, its net current has to be above zero there, and it is lowered by
@@ -113,7 +128,7 @@ fn land(
 }
 
 // Leap: the nodes that came from `from` to `volts` go m times as far again, if the far end proves it.
-// Whether it did.
+// Whether some node did.
 fn leap(
     board: &[u64; 293],
     stretches: &[i64; 408],
@@ -138,6 +153,9 @@ fn leap(
         &mut far,
         &mut there,
     );
+    if !leapt(board, volts, &far) {
+        return false;
+    }
     if land(board, stretches, stored, volts, &mut far, &mut there) {
         *volts = far;
         *nets = there;
@@ -146,7 +164,7 @@ fn leap(
     false
 }
 
-// Leaps of one, two, four .. times what was gained, as long as they hold.
+// Leaps of one, two, four .. times what was gained, as long as they hold and some node leaps.
 pub fn leaps(
     board: &[u64; 293],
     stretches: &[i64; 408],
