@@ -2,6 +2,7 @@ pub mod AnswerLaws
 pub mod ClimbLaws
 pub mod LeapLaws
 pub mod PlaceLaws
+pub mod PlungeLaws
 pub mod SampleLaws
 pub mod StepLaws
 pub mod SweepLaws

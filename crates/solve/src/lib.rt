@@ -4,6 +4,7 @@ mod answer;
 mod certify;
 mod climb;
 mod leap;
+mod plunge;
 mod put;
 pub mod sample;
 mod settle;

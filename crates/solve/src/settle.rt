@@ -4,6 +4,7 @@
 // would pay for them. A search never passes a low assignment: that is all that has to be kept, and
 // voltages fall, so it ends.
 use crate::leap;
+use crate::plunge;
 use crate::put;
 use circuit::board;
 use circuit::places;
@@ -41,7 +42,8 @@ fn lower_by(v: i64, f: i64, s: u64) -> i64
     signed::minus(v, signed::whole(signed::rounded_up(signed::size(f), s)))
 }
 
-// Step: one node lowered by as much as its steepest sum allows, where its net current is above zero.
+// Step: one node lowered by as much as its steepest sum allows, where its net current is above zero, and
+// then further if that left much of it.
 fn step(
     board: &[u64; 293],
     stretches: &[i64; 408],
@@ -57,10 +59,12 @@ fn step(
     if signed::at_most(f, 0) {
         return Fall::Still;
     }
-    let v = lower_by(volts[i], f, board::steepest(board, i));
+    let from = volts[i];
+    let v = lower_by(from, f, board::steepest(board, i));
     let u = Voltage { microvolts: v };
     if u.in_range() {
         put::put(board, stretches, stored, i, v, volts, nets);
+        plunge::plunge(board, stretches, stored, i, from, f, volts, nets);
         return Fall::Lower;
     }
     Fall::Out

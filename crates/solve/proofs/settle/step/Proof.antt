@@ -9,6 +9,7 @@ use Rattle.units.proofs.Integers.{leZ-true, leZ-false}
 use Rattle.network.specs.Network.{reading, net}
 use Rattle.circuit.specs.Board.{networkOn, steepestOn}
 use Rattle.solve.proofs.PlaceLaws.{place-of}
+use Rattle.solve.proofs.SweepLaws.{lowered-down}
 use Rattle.solve.proofs.StepLaws.{net-small, steep-some, steep-fits, step-lowered, step-out}
 use native.Mathlib.Omega.{arith}
 use borrow.Author.Needs.{needs}
@@ -48,11 +49,11 @@ returns c = (c .before .before .before .pre .0, (refl, leZ-true _ _ (sym (rw (at
 high : (c : tie.Else1) → pos 0 <ℤ f (c .before .before .before)
 high c = leZ-false _ _ (sym (rw (at-net (c .before .before)) at (c .before .at-most .ensures)) ∙ c .if1 .left)
 
-mul-lower-by : tie.Need-mul-lower-by
-mul-lower-by c = record { fits = omega (arith, place (c .before .before .before)) }
+mul-from : tie.Need-mul-from
+mul-from c = record { fits = omega (arith, place (c .before .before .before)) }
 
-element-copy-out-lower-by : tie.Need-element-copy-out-lower-by
-element-copy-out-lower-by c = place (c .before .before .before)
+element-copy-out-from : tie.Need-element-copy-out-from
+element-copy-out-from c = place (c .before .before .before)
 
 steepest-requires : tie.Need-steepest-requires
 steepest-requires c κs = place (c .before .before .before .before)
@@ -84,11 +85,15 @@ inside c = leb-true _ _ (sym (c .before .in-range .ensures) ∙ c .if2 .taken)
 put-requires : tie.Need-put-requires
 put-requires c κs = let s = c .before .before .before .before .before .before .before .before .before .before in (s .pre .0, s .pre .1, inside (c .before .before))
 
+plunge-requires : tie.Need-plunge-requires
+plunge-requires c κs = let s = c .before .before .before .before .before .before .before .before .before .before .before .before .before in (c .before .before .put .ensures .0, s .pre .1, rw (at-node (c .before .before .before .before .before .before .before .before)) (s .pre .0 .evaluable .ranged (s .args .i) (s .pre .1 .1)))
+
 returns-2 : tie.Need-returns-2
 unfolding f
 returns-2 c =
-    let s = c .before .before .before .before .before .before .before .before .before .before .before in
-    (c .put .ensures .0, rw (c .put .ensures .1) (step-lowered (s .pre .0) (s .args .i) (s .pre .1) (high (c .before .before .before .before .before .before .before .before)) (there (c .before .before .before .before .before)) (inside (c .before .before .before))))
+    let s = c .before .before .before .before .before .before .before .before .before .before .before .before .before .before in
+    let k = c .before .before .before .put .ensures in
+    (c .plunge .ensures .0, lowered-down (rw (k .1) (step-lowered (s .pre .0) (s .args .i) (s .pre .1) (high (c .before .before .before .before .before .before .before .before .before .before .before)) (there (c .before .before .before .before .before .before .before .before)) (inside (c .before .before .before .before .before .before)))) (c .plunge .ensures .1))
 
 returns-3 : tie.Need-returns-3
 unfolding f
@@ -105,11 +110,12 @@ step-spec =
     element-copy-out-f
     at-most-requires
     returns
-    mul-lower-by
-    element-copy-out-lower-by
+    mul-from
+    element-copy-out-from
     steepest-requires
     lower-by-requires
     in-range-requires
     put-requires
+    plunge-requires
     returns-2
     returns-3)
