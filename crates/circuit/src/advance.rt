@@ -54,8 +54,8 @@ fn next(board: &[u64; 293], stretches: &[i64; 408], volts: &[i64; 16], j: usize,
     0
 }
 
-// All stored currents after a sample with these voltages, if every one is within its limit. They are gathered
-// apart, and stored whole once the last is tested.
+// All stored currents after a sample with these voltages, if every one is within its limit. Each is stored
+// where it was; if one is beyond its limit, all are put back.
 pub fn advance(
     board: &[u64; 293],
     stretches: &[i64; 408],
@@ -66,16 +66,16 @@ pub fn advance(
     ensures { λ r. ⌜ Advancing (now (board .entry)) (now (stretches .entry)) (now (volts .entry)) (now (stored .entry)) r (now (stored .exit)) ⌝ }
 {
     let count = board::count(board);
-    let mut new = *stored;
+    let before = *stored;
     let mut j: usize = 0;
     while j < count {
         let x = next(board, stretches, volts, j, stored[j]);
         if !is_kept(x) {
+            *stored = before;
             return Advanced::Beyond;
         }
-        new[j] = x;
+        stored[j] = x;
         j += 1;
     }
-    *stored = new;
     Advanced::Stored
 }

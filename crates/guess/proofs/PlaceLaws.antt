@@ -34,9 +34,6 @@ pub record StandingTo (volts : List ℤ) (i : ℕ) : Type 0 where
 below : (i j : ℕ) → j < i + 1 → (j ≡ i → ⊥) → j < i
 below i j l n = ⊎-elim (λ (h : suc j ≤ i). h) (λ (h : i < suc j). absurd (n (omega arith))) (decideN (suc j) i)
 
-pub standing-none : (volts : List ℤ) → length volts ≡ 16 → StandingTo volts 0
-standing-none volts long = record { long = long; ranged = λ j l. absurd (omega arith) }
-
 -- one more
 pub standing-more : (volts : List ℤ) (i : ℕ) (v : ℤ) → i < 16 → StandingTo volts i → InRange v → StandingTo (set volts i v) (i + 1)
 standing-more volts i v place h inside =

@@ -12,12 +12,11 @@ pub fn seated(board: &[u64; 293], volts: &[i64; 16]) -> [i64; 16]
     requires { ⌜ nodesOn (now board) ≤ 15 ⌝ }
     ensures { λ r. ⌜ Standing (now (board .entry)) r ⌝ }
 {
-    let mut at = circuit::places::copied(volts);
     let nodes = board::nodes(board);
+    let mut at = [0i64; 16];
     let mut i: usize = 1;
-    at[0] = 0;
     while i <= nodes {
-        at[i] = Voltage::clamped(at[i]);
+        at[i] = Voltage::clamped(volts[i]);
         i += 1;
     }
     at

@@ -16,10 +16,10 @@ use Rattle.circuit.proofs.advance.advance.Statement.{statement}
 use Rattle.circuit.proofs.advance.advance.Tie as tie
 
 abbrev Inv-loop : tie.InvT-loop
-Inv-loop board stretches volts stored count new₀ j₀ new j = (j ≤ count) × ((i : ℕ) → i < j → Within storedLimit (next (networkOn board stretches) (reading stored) (reading volts) i)) × StoredTo board stretches volts stored j new
+Inv-loop board stretches volts stored₀ count before j₀ stored j = (j ≤ count) × ((i : ℕ) → i < j → Within storedLimit (next (networkOn board stretches) (reading stored₀) (reading volts) i)) × StoredTo board stretches volts stored₀ j stored
 
 abbrev μ-loop : tie.MeasureT-loop
-μ-loop board stretches volts stored count new₀ j₀ new j = count - j
+μ-loop board stretches volts stored₀ count before j₀ stored j = count - j
 
 -- the call, seen from an element's turn, and that the element is there
 abbrev start : tie.In-loop Inv-loop μ-loop → tie.Start Inv-loop μ-loop
@@ -31,15 +31,19 @@ there l = omega (arith, l .loop-test .taken, l .before .before .before .count .e
 element : (l : tie.In-loop Inv-loop μ-loop) → l .before .loop .j < 32
 element l = omega (arith, there l, few-elements _ _ (start l .pre .0 .ready .laid))
 
+-- its stored current is still the one before
+as-it-was : (l : tie.In-loop Inv-loop μ-loop) → reading (l .before .loop .stored) (l .before .loop .j) ≡ reading (start l .args .stored .now) (l .before .loop .j)
+as-it-was l = l .before .loop .inv .2 .old (l .before .loop .j) (omega arith)
+
 -- its new stored current
 at-next : (c : tie.After-next Inv-loop μ-loop) → (let l = c .before .before in let s = start l in toZ w64 (ofZ w64 (c .next .result)) ≡ next (networkOn (s .args .board .now) (s .args .stretches .now)) (reading (s .args .stored .now)) (reading (s .args .volts .now)) (l .before .loop .j))
 at-next c =
     let l = c .before .before in
     let s = start l in
-    let z = reading (s .args .stored .now) (l .before .loop .j) in
+    let z = reading (l .before .loop .stored) (l .before .loop .j) in
     let e : toZ w64 (ofZ w64 z) ≡ z = search needs in
     let f : toZ w64 (ofZ w64 (c .next .result)) ≡ c .next .result = search needs in
-    f ∙ c .next .ensures ∙ next-is (s .args .board .now) (s .args .stretches .now) (s .args .volts .now) (s .args .stored .now) (l .before .loop .j) _ e
+    f ∙ c .next .ensures ∙ next-is (s .args .board .now) (s .args .stretches .now) (s .args .volts .now) (s .args .stored .now) (l .before .loop .j) _ (e ∙ as-it-was l)
 
 -- .. and the test's word on it
 tested : (c : tie.After-is-kept Inv-loop μ-loop) → (let l = c .before .before .before in let s = start l in c .is-kept .result ≡ within storedLimit (next (networkOn (s .args .board .now) (s .args .stretches .now)) (reading (s .args .stored .now)) (reading (s .args .volts .now)) (l .before .loop .j)))
@@ -61,9 +65,9 @@ next-requires : tie.Need-next-requires Inv-loop μ-loop
 next-requires c κs =
     let l = c .before in
     let s = start l in
-    let z = reading (s .args .stored .now) (l .before .loop .j) in
+    let z = reading (l .before .loop .stored) (l .before .loop .j) in
     let e : toZ w64 (ofZ w64 z) ≡ z = search needs in
-    (s .pre .0 .ready .laid, s .pre .0 .ranged, there l, rw e (s .pre .0 .kept (l .before .loop .j) (there l)))
+    (s .pre .0 .ready .laid, s .pre .0 .ranged, there l, rw (e, as-it-was l) (s .pre .0 .kept (l .before .loop .j) (there l)))
 
 is-kept-requires : tie.Need-is-kept-requires Inv-loop μ-loop
 is-kept-requires c κs = search needs
@@ -74,11 +78,11 @@ returns c =
     let l = d .before .before .before in
     ((l .before .loop .j, there l, leb-false _ _ (sym (tested d) ∙ not-true _ (c .if1 .taken))), refl)
 
-mul-new : tie.Need-mul-new Inv-loop μ-loop
-mul-new c = record { fits = omega (arith, element (c .before .before .before .before)) }
+mul-x : tie.Need-mul-x Inv-loop μ-loop
+mul-x c = record { fits = omega (arith, element (c .before .before .before .before)) }
 
-array-set-from-new : tie.Need-array-set-from-new Inv-loop μ-loop
-array-set-from-new c = element (c .before .before .before .before)
+element-set-from-x : tie.Need-element-set-from-x Inv-loop μ-loop
+element-set-from-x c = element (c .before .before .before .before)
 
 add-j : tie.Need-add-j Inv-loop μ-loop
 add-j c = record { fits = omega (arith, element (c .before .before .before .before)) }
@@ -94,7 +98,7 @@ loop-again c =
     let n = l .before .loop in (
       omega (arith, l .loop-test .taken),
       below-more _ _ (n .inv .1) (leb-true _ _ (sym (tested d) ∙ not-false _ (c .if1 .left))),
-      stored-more (s .args .board .now) (s .args .stretches .now) (s .args .volts .now) (s .args .stored .now) (n .j) (n .new) _ (omega (arith, element l, s .pre .1)) (at-next (d .before)) (n .inv .2),
+      stored-more (s .args .board .now) (s .args .stretches .now) (s .args .volts .now) (s .args .stored .now) (n .j) (n .stored) _ (omega (arith, element l, s .pre .1)) (at-next (d .before)) (n .inv .2),
     )
 
 returns-2 : tie.Need-returns-2 Inv-loop μ-loop
@@ -117,8 +121,8 @@ advance-spec =
     next-requires
     is-kept-requires
     returns
-    mul-new
-    array-set-from-new
+    mul-x
+    element-set-from-x
     add-j
     loop-less
     loop-again

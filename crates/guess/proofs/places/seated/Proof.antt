@@ -1,10 +1,9 @@
-use lib.IntN.{pos}
-use mathlib.Core.Path.{_≡_, _∙_}
+use mathlib.Core.Path.{_≡_, refl, _∙_}
 use mir.Syntax.{w64}
 use mir.Val.{toZ, ofZ}
 use Rattle.units.proofs.Clamping.{clamped-ranged}
 use Rattle.circuit.specs.Board.{nodesOn}
-use Rattle.guess.proofs.PlaceLaws.{StandingTo, standing-none, standing-more, standing-all}
+use Rattle.guess.proofs.PlaceLaws.{StandingTo, standing-more, standing-all}
 use Prim.Native.Nat.{_+_, _-_, _≤_}
 use native.Mathlib.Omega.{arith}
 use borrow.Author.Needs.{needs}
@@ -12,35 +11,27 @@ use Rattle.guess.proofs.places.seated.Statement.{statement}
 use Rattle.guess.proofs.places.seated.Tie as tie
 
 abbrev Inv-loop : tie.InvT-loop
-Inv-loop board volts at₀ nodes i₀ at i = (i ≤ nodes + 1) × (nodes ≤ 15) × (nodes ≡ nodesOn board) × StandingTo at i
+Inv-loop board volts nodes at₀ i₀ at i = (i ≤ nodes + 1) × (nodes ≤ 15) × (nodes ≡ nodesOn board) × StandingTo at i
 
 abbrev μ-loop : tie.MeasureT-loop
-μ-loop board volts at₀ nodes i₀ at i = 16 - i
-
-copied-requires : tie.Need-copied-requires Inv-loop μ-loop
-copied-requires c κs = search needs
+μ-loop board volts nodes at₀ i₀ at i = 16 - i
 
 nodes-requires : tie.Need-nodes-requires Inv-loop μ-loop
 nodes-requires c κs = search needs
 
-array-set-of-at : tie.Need-array-set-of-at Inv-loop μ-loop
-array-set-of-at c = search needs
-
 loop-holds : tie.Need-loop-holds Inv-loop μ-loop
-loop-holds c =
-    let k = c .before .copied .ensures in
-    let v = c .before .before .args .volts .now in (
-      omega arith,
-      omega (arith, c .nodes .ensures, c .before .before .pre),
-      c .nodes .ensures,
-      rw (k .0) (standing-more v 0 (pos 0) (omega arith) (standing-none v (k .1)) (omega arith)),
-    )
+loop-holds c = (
+  omega arith,
+  omega (arith, c .nodes .ensures, c .before .pre),
+  c .nodes .ensures,
+  record { long = refl; ranged = λ j l. let e : j ≡ 0 = omega arith in rw e (omega arith) },
+)
 
 mul-clamped : tie.Need-mul-clamped Inv-loop μ-loop
 mul-clamped c = search needs
 
-array-copy-out-clamped : tie.Need-array-copy-out-clamped Inv-loop μ-loop
-array-copy-out-clamped c = search needs
+element-copy-out-clamped : tie.Need-element-copy-out-clamped Inv-loop μ-loop
+element-copy-out-clamped c = search needs
 
 clamped-requires : tie.Need-clamped-requires Inv-loop μ-loop
 clamped-requires c κs = search needs
@@ -66,7 +57,7 @@ loop-again c =
 returns : tie.Need-returns Inv-loop μ-loop
 returns c =
     let l = c .before .loop in
-    standing-all (c .before .before .before .before .args .board .now) (l .at) (l .i) (omega (arith, l .inv .2)) (l .inv .3)
+    standing-all (c .before .before .before .args .board .now) (l .at) (l .i) (omega (arith, l .inv .2)) (l .inv .3)
 
 pub seated-spec : {M : Type 1} → statement M
 seated-spec =
@@ -74,12 +65,10 @@ seated-spec =
     (tie.spec
     Inv-loop
     μ-loop
-    copied-requires
     nodes-requires
-    array-set-of-at
     loop-holds
     mul-clamped
-    array-copy-out-clamped
+    element-copy-out-clamped
     clamped-requires
     mul-at
     array-set-from-at
