@@ -23,9 +23,8 @@ def main(runs, before):
         call = table.times("time", ["--call", runs, *files], before)
         print(f"| {' | '.join([circuit, '0: ns a call', *table.columns(call), *[''] * len(table.FLOAT_HEADS)])} |", flush=True)
         for length in LENGTHS:
-            words = ["--block", length, *files]
-            taken = table.times("time", ["--time", runs, *words], before)
-            print(f"| {' | '.join([circuit, f'{length:,}', *table.columns(taken), *table.floats(taken[-1], runs, *words)])} |", flush=True)
+            blocks, simulators, _ = table.compared(["--block", length, *files], runs, before)
+            print(f"| {' | '.join([circuit, f'{length:,}', *blocks, *simulators])} |", flush=True)
 
 
 if __name__ == "__main__":

@@ -5,7 +5,7 @@
 # count.sh --blocks [--time RUNS] [--before MODULE.ll]: one sample in blocks of 1 to 4,096 samples, and a call of none.
 #
 # Moves of a node, from a block with a counter in it; with --time also nanoseconds of the block as it is and of the f64
-# simulator, the textbook's and the one that keeps its inverse, the median of RUNS runs. The rows are rows.txt's, with --growth growth.txt's. --curves, --touching
+# simulator, the textbook's and the one that keeps its inverse, in RUNS rounds of all of them (table.py). The rows are rows.txt's, with --growth growth.txt's. --curves, --touching
 # and --blocks time in any case, with 5 runs unless told. With --before, the times of another block stand beside them: MODULE.ll is what module.sh makes of
 # another commit.
 set -eu

@@ -5,6 +5,7 @@ count.sh builds them and calls this.
 """
 
 import pathlib
+import statistics
 import subprocess
 import sys
 
@@ -68,14 +69,32 @@ def floats(ours, runs, *words):
     return f"{textbook:,.0f}", f"{keeping:,.0f}", f"{ours / textbook:,.1f}", f"{ours / keeping:,.1f}"
 
 
+def compared(words, runs, before):
+    """The cells of our time, with `before` the other block's beside it, and those of both f64 simulators'; and our time.
+
+    All of them run in turn, so many rounds: what else the machine has to do changes its speed within seconds, and so meets all alike. A time is the least of its
+    rounds, and how two of them are to each other is the median of what it was in the rounds.
+    """
+    blocks = ["time-before", "time"] if before else ["time"]
+    ways = [[block] for block in blocks] + [["float"], ["float", "--kept"]]
+    rounds = [[said(BENCH / way[0], *way[1:], "--time", 1, *words)[0] for way in ways] for _ in range(runs)]
+    least, ours = [min(times) for times in zip(*rounds)], len(blocks) - 1
+
+    def to(other):
+        return statistics.median(times[ours] / times[other] for times in rounds)
+
+    taken = [f"{time:,.0f}" for time in least]
+    return [*taken[:ours + 1], *[f"{to(0):.2f}"] * ours], [*taken[ours + 1:], f"{to(-2):,.1f}", f"{to(-1):,.1f}"], least[ours]
+
+
 def cells(name, build, runs, before):
     files = written(build)
     free = build.fields["nodes"] - build.fields["drives"]
     mean, greatest = said(BENCH / "count", *files)
     yield from (name.replace("_", " "), f"{free}", f"{len(build.elements)}", f"{build.samples:,}", f"{mean:,.1f}", f"{greatest:,.0f}")
     if runs:
-        taken = times("time", ["--time", runs, *files], before)
-        yield from (*columns(taken), f"{1e9 / RATE / taken[-1]:,.3g}", *floats(taken[-1], runs, *files))
+        blocks, simulators, ours = compared(files, runs, before)
+        yield from (*blocks, f"{1e9 / RATE / ours:,.3g}", *simulators)
 
 
 def main(path, runs, before):
