@@ -1,4 +1,5 @@
-// The advance of stored currents from one sample to the next. All are tested before any is stored.
+// The advance of stored currents from one sample to the next: all of them, or none if one would be beyond its
+// limit.
 use crate::board;
 use crate::branch;
 use network::kind;
