@@ -3,14 +3,13 @@ use mathlib.Core.Bool.{Bool, true, false, _&&_, cond}
 use mathlib.Core.List.{List, [], _∷_}
 use Prim.Native.Nat.{ℕ, zero, suc, _+_, _*_, _-_, _^_}
 use lib.Dec.{eqb, leb, ltb}
-use lib.ListN.{length, getD}
+use lib.ListN.{length, getD, drop}
 use Rattle.units.specs.Float.{signed}
-use Rattle.units.specs.Table.{between, every}
+use Rattle.units.specs.Table.{every}
+use Rattle.console.specs.Words.{isDigit, first}
 use Rattle.console.specs.declared.number.Spelt.{Spelt}
 use Rattle.console.specs.declared.number.Spelt.the-variants.{Nothing, Beyond, Value}
-
-abbrev pub isDigit : ℕ → Bool
-isDigit b = between 48 57 b
+use Rattle.console.specs.declared.words.Run.the-variants.{Digits}
 
 -- every byte is a digit
 unfoldable pub allDigits : List ℕ → Bool
@@ -20,6 +19,10 @@ allDigits text = every (λ (j : ℕ). isDigit (getD text j 0)) (length text)
 unfoldable pub worth : List ℕ → ℕ → ℕ
 worth digits zero = 0
 worth digits (suc n) = 10 * worth digits n + (getD digits n 0 - 48)
+
+-- what the digits are worth that stand from a place of a text on
+abbrev pub worthAt : List ℕ → ℕ → ℕ
+worthAt text i = let digits = first Digits (drop i text) in worth digits (length digits)
 
 -- what stands after a number's sign: one digit or more and nothing else, or no number
 unfoldable pub plain : (negative : Bool) → List ℕ → Spelt

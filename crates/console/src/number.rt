@@ -1,11 +1,13 @@
 // Numbers read from text: any bytes are a number below 2^63 in size, one that is larger, or none.
+use super::words;
+use super::words::Run;
 use units::signed;
 ghost use mathlib.Core.Path.{_≡_};
 ghost use mathlib.Core.Bool.{true};
 ghost use Prim.Native.Nat.{_^_, _<_, min};
 ghost use lib.ListN.{length};
 ghost use Rattle.units.specs.Float.{signed};
-ghost use Rattle.console.specs.Number.{isDigit, allDigits, worth, plain, spelt};
+ghost use Rattle.console.specs.Number.{allDigits, worth, worthAt, plain, spelt};
 
 // What a text spells: no number, one that is 2^63 or more in size, or this one.
 pub enum Spelt {
@@ -22,18 +24,12 @@ const BEYOND: u64 = 9223372036854775808;
 // Ten times a number above this is beyond.
 const TENTH: u64 = 922337203685477580;
 
-fn is_digit(byte: u8) -> bool
-    ensures { λ r. ⌜ r ≡ isDigit byte ⌝ }
-{
-    (48 <= byte) & (byte <= 57)
-}
-
 fn all_digits(text: &[u8]) -> bool
     ensures { λ r. ⌜ r ≡ allDigits (now (text .entry)) ⌝ }
 {
     let mut j: usize = 0;
     while j < text.len() {
-        if !is_digit(text[j]) {
+        if !words::is_digit(text[j]) {
             return false;
         }
         j += 1;
@@ -62,8 +58,18 @@ fn worth(digits: &[u8]) -> u64
     BEYOND
 }
 
+// What the digits from a place of a text on are worth, or what is beyond; 0 where there are none.
+pub fn worth_at(text: &[u8], at: usize) -> u64
+    ensures { λ r. ⌜ r ≡ min (worthAt (now (text .entry)) at) (2 ^ 63) ⌝ }
+{
+    if text.len() <= at {
+        return 0;
+    }
+    worth(words::first(Run::Digits, &text[at..]))
+}
+
 // A number of this size, below zero or not.
-fn value(negative: bool, size: u64) -> i64
+pub fn value(negative: bool, size: u64) -> i64
     requires { ⌜ size < 2 ^ 63 ⌝ }
     ensures { λ r. ⌜ r ≡ signed negative size ⌝ }
 {

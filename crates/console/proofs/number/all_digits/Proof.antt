@@ -7,7 +7,8 @@ use borrow.Author.Tests.{not-true, not-false}
 use borrow.Author.Needs.{needs}
 use Rattle.units.specs.Table.{every}
 use Rattle.units.proofs.Every.{every-none, every-more, every-fails}
-use Rattle.console.specs.Number.{isDigit, allDigits}
+use Rattle.console.specs.Number.{allDigits}
+use Rattle.console.specs.Words.{isDigit}
 use Rattle.console.proofs.number.all_digits.Statement.{statement}
 use Rattle.console.proofs.number.all_digits.Tie as tie
 

@@ -5,7 +5,8 @@ use native.Mathlib.Omega.{arith}
 use lib.ListN.{length, getD}
 use borrow.Author.Needs.{needs}
 use Rattle.units.proofs.Every.{between-says, every-says}
-use Rattle.console.specs.Number.{isDigit, allDigits, worth}
+use Rattle.console.specs.Number.{allDigits, worth}
+use Rattle.console.specs.Words.{isDigit}
 use Rattle.console.proofs.NumberLaws.{worth-none, worth-more, worth-beyond}
 use Rattle.console.proofs.number.worth.Statement.{statement}
 use Rattle.console.proofs.number.worth.Tie as tie

@@ -20,6 +20,18 @@ enum-told-3 c = search needs
 enum-told-4 : tie.Need-enum-told-4
 enum-told-4 c = search needs
 
+enum-told-5 : tie.Need-enum-told-5
+enum-told-5 c = search needs
+
+is-digit-requires : tie.Need-is-digit-requires
+is-digit-requires c κs = search needs
+
+enum-told-6 : tie.Need-enum-told-6
+enum-told-6 c = search needs
+
+is-naming-requires : tie.Need-is-naming-requires
+is-naming-requires c κs = search needs
+
 returns : tie.Need-returns
 returns c = rw (c .before .enum-told .given .1) (c .is-blank .ensures)
 
@@ -32,6 +44,12 @@ returns-3 c = rw (c .enum-told3 .given .1)
 returns-4 : tie.Need-returns-4
 returns-4 c = rw (c .enum-told4 .given .1)
 
+returns-5 : tie.Need-returns-5
+returns-5 c = rw (c .before .enum-told5 .given .1) (c .is-digit .ensures)
+
+returns-6 : tie.Need-returns-6
+returns-6 c = rw (c .before .enum-told6 .given .1) (c .is-naming .ensures)
+
 pub belongs-spec : {M : Type 1} → statement M
 belongs-spec =
     tie.close
@@ -42,7 +60,13 @@ belongs-spec =
     is-blank-requires-2
     enum-told-3
     enum-told-4
+    enum-told-5
+    is-digit-requires
+    enum-told-6
+    is-naming-requires
     returns
     returns-2
     returns-3
-    returns-4)
+    returns-4
+    returns-5
+    returns-6)
