@@ -1,0 +1,6 @@
+pub mod ChainLaws
+pub mod Examples
+pub mod FactorLaws
+pub mod FoundLaws
+pub mod Promise
+mod ReadyLaws
