@@ -1,6 +1,7 @@
 pub mod Allowed
 pub mod Curves
 pub mod Examples
+pub mod Judging
 pub mod Opening
 pub mod Places
 pub mod Promise

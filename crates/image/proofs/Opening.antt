@@ -100,10 +100,17 @@ rule-held n false rest parts e = let z : _≡_ {A = ℕ} 0 1 = cc in absurd (ome
 same-parts : (a b : Parts) → opened a ≡ opened b → b ≡ a
 same-parts a b e = cc
 
--- the parts of an opened image are those that lie in it, and are sound
-pub opened-sound : (image : List ℕ) (parts : Parts) → openingOf image ≡ opened parts → (parts ≡ partsOf image) × Sound parts
+-- the parts of an opened image are those that lie in it, and keep the rules 2 to 5 over parts
+pub record Kept (image : List ℕ) (parts : Parts) : Type 0 where
+  pub is : parts ≡ partsOf image
+  pub header : headerFits parts ≡ true
+  pub sizes : curveSizesFit parts ≡ true
+  pub curves : curvesFit parts ≡ true
+  pub elements : elementsFit parts ≡ true
+
+pub opened-kept : (image : List ℕ) (parts : Parts) → openingOf image ≡ opened parts → Kept image parts
 unfolding openingOf curveBytesFit
-opened-sound image parts e =
+opened-kept image parts e =
     let a = rule-held number.Length (lengthFits (length image)) _ parts e in
     let b = rule-held number.Trailer (trailerFits image) _ parts (a .1) in
     let c = rule-held number.Sizes (sizesFit image) _ parts (b .1) in
@@ -111,7 +118,19 @@ opened-sound image parts e =
     let f = rule-held number.Element (elementsFit (partsOf image)) _ parts (d .1) in
     let is = same-parts (partsOf image) parts (f .1) in
     let padding = every (λ (k : ℕ). paddingFits (curveBytesAt image k)) (headerOf image .«curve_count») in
-    (is, rw is (sound (partsOf image) (trailer-says image (b .0)) (sizes-say image (b .0) (c .0) .sizes) (both {a = padding} {b = curvesFit (partsOf image)} (d .0) .1) (f .0)))
+    record {
+      is = is;
+      header = rw is (trailer-says image (b .0));
+      sizes = rw is (sizes-say image (b .0) (c .0) .sizes);
+      curves = rw is (both {a = padding} {b = curvesFit (partsOf image)} (d .0) .1);
+      elements = rw is (f .0);
+    }
+
+-- and so are sound
+pub opened-sound : (image : List ℕ) (parts : Parts) → openingOf image ≡ opened parts → (parts ≡ partsOf image) × Sound parts
+opened-sound image parts e =
+    let k = opened-kept image parts e in
+    (k .is, sound parts (k .header) (k .sizes) (k .curves) (k .elements))
 
 -- ---- the numbers that an image is refused by: 1 to 5
 

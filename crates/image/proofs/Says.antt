@@ -61,6 +61,11 @@ pub curve-size : (parts : Parts) → curveSizesFit parts ≡ true → (k : ℕ) 
 unfolding curveSizesFit
 curve-size parts e k h = every-says (λ (k : ℕ). curveSizeFits (curveOf parts k .count)) (parts .«curve_count») k e h
 
+-- the rule, over the array
+pub curve-sizes-fit-is : (parts : Parts) → every (λ (k : ℕ). curveSizeFits (getD (parts .curves) k noCurve .count)) (parts .«curve_count») ≡ curveSizesFit parts
+unfolding curveSizesFit
+curve-sizes-fit-is parts = every-same _ _ (parts .«curve_count») (λ k h. ap (λ (c : Curve). curveSizeFits (c .count)) (sym (curve-there parts k h)))
+
 -- rule 4: a curve is one of the network's
 pub curve-says : (c : Curve) → curveSizeFits (c .count) ≡ true → curveFits c ≡ true → CurveInLimits (slopesOf c) (breakpointsOf c)
 unfolding curveFits slopesOf breakpointsOf

@@ -3,6 +3,7 @@ pub mod Conductance
 pub mod Curve
 pub mod Examples
 pub mod Format
+pub mod Judged
 pub mod Meaning
 pub mod Opened
 pub mod Parts

@@ -1,7 +1,8 @@
 // A curve of the image: its own bytes as they lie there, and what is read from them.
 use super::field;
-use super::limits;
+use super::parts;
 use super::parts::Curve;
+use super::rules;
 use units::bytes;
 ghost use mathlib.Core.Path.{_≡_};
 ghost use Prim.Native.Nat.{ℕ, suc, _+_, _*_, _≤_, _<_};
@@ -102,17 +103,6 @@ fn curve_in(bytes: &[u8]) -> Curve
     }
 }
 
-// What stands where there is no curve.
-pub fn none() -> Curve
-    ensures { λ r. ⌜ r ≡ noCurve ⌝ }
-{
-    Curve {
-        count: 0,
-        slopes: [0; 17],
-        breakpoints: [0; 16],
-    }
-}
-
 // Whether `count` curves from `first` on have sizes in range and end at `end`.
 pub fn split(image: &[u8], first: usize, count: usize, end: usize) -> bool
     ensures { λ r. ⌜ r ≡ splits (now (image .entry)) first count end ⌝ }
@@ -124,7 +114,7 @@ pub fn split(image: &[u8], first: usize, count: usize, end: usize) -> bool
             return false;
         }
         let m = field::byte(image, at);
-        if !((1 <= m) & (m <= limits::BREAKPOINTS)) {
+        if !rules::curve_size_fits(m) {
             return false;
         }
         at += curve_length(m);
@@ -138,7 +128,7 @@ pub fn curves_at(image: &[u8], first: usize, count: usize) -> [Curve; 8]
     requires { ⌜ (count ≤ curveLimit) × ((k : ℕ) → k < count → CurveThere (now image) (startFrom (now image) first k)) ⌝ }
     ensures { λ r. ⌜ r ≡ padded noCurve curveLimit (λ (k : ℕ). curveIn (curveBytes (now (image .entry)) (startFrom (now (image .entry)) first k))) count ⌝ }
 {
-    let none = none();
+    let none = parts::no_curve();
     let mut curves = [none; 8];
     let mut at = first;
     let mut k: usize = 0;

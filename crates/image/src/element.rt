@@ -1,5 +1,6 @@
 // The elements as they lie in the image, eight bytes each.
 use super::limits;
+use super::parts;
 use super::parts::Element;
 use units::bytes;
 ghost use mathlib.Core.Path.{_≡_};
@@ -24,25 +25,12 @@ fn element_at(image: &[u8], j: usize) -> Element
     }
 }
 
-// What stands where there is no element.
-pub fn none() -> Element
-    ensures { λ r. ⌜ r ≡ noElement ⌝ }
-{
-    Element {
-        kind: 0,
-        p: 0,
-        q: 0,
-        curve: 0,
-        value: 0,
-    }
-}
-
 // The first n elements.
 pub fn elements_at(image: &[u8], n: usize) -> [Element; 32]
     requires { ⌜ (n ≤ branchLimit) × (elementSize * n ≤ length (now image)) ⌝ }
     ensures { λ r. ⌜ r ≡ padded noElement branchLimit (elementAt (now (image .entry))) n ⌝ }
 {
-    let none = none();
+    let none = parts::no_element();
     let mut elements = [none; 32];
     let mut j: usize = 0;
     while j < n {

@@ -9,6 +9,7 @@ mod parts;
 mod reader;
 mod rules;
 mod trailer;
+mod verdict;
 
 pub use conductances::conductance;
 pub use conductances::conductances_fit;
@@ -20,5 +21,8 @@ pub use curve::slope;
 pub use parts::Curve;
 pub use parts::Element;
 pub use parts::Parts;
+pub use parts::no_curve;
+pub use parts::no_parts;
 pub use reader::Opened;
 pub use reader::read;
+pub use verdict::judge;

@@ -1,5 +1,8 @@
 // A circuit's parts, in the widths of the image, so that a copy is small. Places past a count, and
 // slopes and breakpoints past a curve's own, mean nothing; the reader leaves zeros there.
+ghost use mathlib.Core.Path.{_≡_};
+ghost use Rattle.image.specs.Parts.{noElement, noCurve, noParts};
+
 pub struct Element {
     // Resistor, capacitor, inductor or diode.
     pub kind: u8,
@@ -31,4 +34,45 @@ pub struct Parts {
     pub elements: [Element; 32],
     pub curve_count: u8,
     pub curves: [Curve; 8],
+}
+
+// What stands where there is none: zeros.
+pub fn no_element() -> Element
+    ensures { λ r. ⌜ r ≡ noElement ⌝ }
+{
+    Element {
+        kind: 0,
+        p: 0,
+        q: 0,
+        curve: 0,
+        value: 0,
+    }
+}
+
+pub fn no_curve() -> Curve
+    ensures { λ r. ⌜ r ≡ noCurve ⌝ }
+{
+    Curve {
+        count: 0,
+        slopes: [0; 17],
+        breakpoints: [0; 16],
+    }
+}
+
+pub fn no_parts() -> Parts
+    ensures { λ r. ⌜ r ≡ noParts ⌝ }
+{
+    let no_element = no_element();
+    let no_curve = no_curve();
+    Parts {
+        version: 0,
+        nodes: 0,
+        driven: 0,
+        output: 0,
+        rate: 0,
+        element_count: 0,
+        elements: [no_element; 32],
+        curve_count: 0,
+        curves: [no_curve; 8],
+    }
 }

@@ -3,6 +3,7 @@
 use super::curve;
 use super::element;
 use super::limits;
+use super::parts;
 use super::parts::Parts;
 use super::rules;
 use super::trailer;
@@ -54,19 +55,7 @@ fn filled(image: &[u8], header: Parts) -> Parts
 fn refused(number: Number) -> Opened
     ensures { λ r. ⌜ (r .number ≡ number) × (r .parts ≡ noParts) ⌝ }
 {
-    let no_element = element::none();
-    let no_curve = curve::none();
-    let parts = Parts {
-        version: 0,
-        nodes: 0,
-        driven: 0,
-        output: 0,
-        rate: 0,
-        element_count: 0,
-        elements: [no_element; 32],
-        curve_count: 0,
-        curves: [no_curve; 8],
-    };
+    let parts = parts::no_parts();
     Opened { number, parts }
 }
 

@@ -1,4 +1,4 @@
-// Rules 2, 4 and 5 over a circuit's parts, whatever they come from.
+// Rules 2 to 5 over a circuit's parts, whatever they come from.
 use super::limits;
 use super::parts::Curve;
 use super::parts::Element;
@@ -26,6 +26,29 @@ pub fn header_fits(parts: Parts) -> bool
         & ((limits::LOWEST_RATE <= parts.rate) & (parts.rate <= limits::HIGHEST_RATE))
         & ((1 <= parts.output) & (parts.output <= parts.nodes))
         & (parts.version == limits::VERSION)
+}
+
+// Whether a curve may have so many breakpoints.
+pub fn curve_size_fits(m: usize) -> bool
+    ensures { λ r. ⌜ r ≡ curveSizeFits m ⌝ }
+{
+    (1 <= m) & (m <= limits::BREAKPOINTS)
+}
+
+// Whether the first n curves may.
+pub fn curve_sizes_fit(curves: [Curve; 8], n: usize) -> bool
+    requires { ⌜ n ≤ curveLimit ⌝ }
+    ensures { λ r. ⌜ r ≡ every (λ (k : ℕ). curveSizeFits (getD curves k noCurve .count)) n ⌝ }
+{
+    let mut k: usize = 0;
+    while k < n {
+        let c = curves[k];
+        if !curve_size_fits(c.count as usize) {
+            return false;
+        }
+        k += 1;
+    }
+    true
 }
 
 fn slope_fits(slope: u32) -> bool

@@ -1,8 +1,7 @@
 // The trailer: the last 16 bytes of the image, which point back and say how many there are of what.
-use super::curve;
-use super::element;
 use super::field;
 use super::limits;
+use super::parts;
 use super::parts::Parts;
 use super::rules;
 use units::bytes;
@@ -39,19 +38,15 @@ pub fn header_at(image: &[u8], at: usize) -> Parts
     requires { ⌜ at + trailerSize ≤ length (now image) ⌝ }
     ensures { λ r. ⌜ r ≡ headerAt (now (image .entry)) at ⌝ }
 {
-    let no_element = element::none();
-    let no_curve = curve::none();
-    Parts {
-        version: image[at + 13],
-        nodes: image[at + 6],
-        driven: image[at + 7],
-        output: image[at + 12],
-        rate: bytes::u32_at(image, at + 8) as u32,
-        element_count: image[at + 4],
-        elements: [no_element; 32],
-        curve_count: image[at + 5],
-        curves: [no_curve; 8],
-    }
+    let mut header = parts::no_parts();
+    header.version = image[at + 13];
+    header.nodes = image[at + 6];
+    header.driven = image[at + 7];
+    header.output = image[at + 12];
+    header.rate = bytes::u32_at(image, at + 8) as u32;
+    header.element_count = image[at + 4];
+    header.curve_count = image[at + 5];
+    header
 }
 
 // Whether every field but the distances is in its range.

@@ -26,11 +26,11 @@ there c = rw (c .before .loop .inv .1 .0) (c .before .before .before .before .pr
 long : (c : tie.After-curve-at Inv-loop μ-loop) → length (now (c .curve-at .result)) ≡ curveLength (breakpointsAt (now (c .before .before .before .before .before .args .image)) (c .before .before .loop .at))
 long c = ap length (c .curve-at .ensures) ∙ curve-length _ _ (there (c .before))
 
-none-requires : tie.Need-none-requires Inv-loop μ-loop
-none-requires c κs = search needs
+no-curve-requires : tie.Need-no-curve-requires Inv-loop μ-loop
+no-curve-requires c κs = search needs
 
 loop-holds : tie.Need-loop-holds Inv-loop μ-loop
-loop-holds c = (search needs, (start-none _ _, rw (c .none .ensures) (padded-none noCurve 8 _)))
+loop-holds c = (search needs, (start-none _ _, rw (c .no-curve .ensures) (padded-none noCurve 8 _)))
 
 curve-at-requires : tie.Need-curve-at-requires Inv-loop μ-loop
 curve-at-requires c κs = search needs
@@ -72,7 +72,7 @@ curves-at-spec =
     (tie.spec
     Inv-loop
     μ-loop
-    none-requires
+    no-curve-requires
     loop-holds
     curve-at-requires
     curve-in-requires

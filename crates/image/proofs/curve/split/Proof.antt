@@ -1,5 +1,5 @@
 -- `image::curve::split` meets its contract. The loop stands at the start of curve k, and every curve before it has a size in range. Assumes nothing.
-use mathlib.Core.Path.{_≡_, sym}
+use mathlib.Core.Path.{_≡_, sym, _∙_}
 use mathlib.Core.Bool.{true}
 use Prim.Native.Nat.{ℕ, _-_, _≤_}
 use native.Mathlib.Omega.{arith}
@@ -35,11 +35,14 @@ returns c =
 byte-requires : tie.Need-byte-requires Inv-loop μ-loop
 byte-requires c κs = search needs
 
+curve-size-fits-requires : tie.Need-curve-size-fits-requires Inv-loop μ-loop
+curve-size-fits-requires c κs = search needs
+
 returns-2 : tie.Need-returns-2 Inv-loop μ-loop
 returns-2 c =
-    let s = c .before .before .before .before .before .before .args in
-    let l = c .before .before .before .before .loop in
-    sym (splits-fails (now (s .image)) (s .first) (s .count) (s .end) (l .k) (c .before .before .before .loop-test .taken) (rw (← l .inv .1 .0, ← c .before .byte .ensures .0) (not-true _ (c .if2 .taken))))
+    let s = c .before .before .before .before .before .before .before .args in
+    let l = c .before .before .before .before .before .loop in
+    sym (splits-fails (now (s .image)) (s .first) (s .count) (s .end) (l .k) (c .before .before .before .before .loop-test .taken) (rw (← l .inv .1 .0, ← c .before .before .byte .ensures .0) (sym (c .before .curve-size-fits .ensures) ∙ not-true _ (c .if2 .taken))))
 
 curve-length-requires : tie.Need-curve-length-requires Inv-loop μ-loop
 curve-length-requires c κs = search needs
@@ -55,12 +58,12 @@ loop-less c = search needs
 
 loop-again : tie.Need-loop-again Inv-loop μ-loop
 loop-again c =
-    let s = c .before .before .before .before .before .before .before .args in
-    let l = c .before .before .before .before .before .loop in (
+    let s = c .before .before .before .before .before .before .before .before .args in
+    let l = c .before .before .before .before .before .before .loop in (
       search needs,
       (
-        rw (start-more, ← l .inv .1 .0, ← c .before .before .byte .ensures .0) (omega (arith, c .curve-length .ensures)),
-        every-more _ (l .k) (l .inv .1 .1) (rw (← l .inv .1 .0, ← c .before .before .byte .ensures .0) (not-false _ (c .before .if2 .left))),
+        rw (start-more, ← l .inv .1 .0, ← c .before .before .before .byte .ensures .0) (omega (arith, c .curve-length .ensures)),
+        every-more _ (l .k) (l .inv .1 .1) (rw (← l .inv .1 .0, ← c .before .before .before .byte .ensures .0) (sym (c .before .before .curve-size-fits .ensures) ∙ not-false _ (c .before .if2 .left))),
       ),
     )
 
@@ -80,6 +83,7 @@ split-spec =
     loop-holds
     returns
     byte-requires
+    curve-size-fits-requires
     returns-2
     curve-length-requires
     add-at

@@ -16,11 +16,11 @@ Inv-loop image n elements₀ j₀ elements j = (j ≤ n) × (elements ≡ padded
 abbrev μ-loop : tie.MeasureT-loop
 μ-loop image n elements₀ j₀ elements j = n - j
 
-none-requires : tie.Need-none-requires Inv-loop μ-loop
-none-requires c κs = search needs
+no-element-requires : tie.Need-no-element-requires Inv-loop μ-loop
+no-element-requires c κs = search needs
 
 loop-holds : tie.Need-loop-holds Inv-loop μ-loop
-loop-holds c = (search needs, rw (c .none .ensures) (padded-none noElement 32 _))
+loop-holds c = (search needs, rw (c .no-element .ensures) (padded-none noElement 32 _))
 
 element-at-requires : tie.Need-element-at-requires Inv-loop μ-loop
 element-at-requires c κs = search needs
@@ -53,7 +53,7 @@ elements-at-spec =
     (tie.spec
     Inv-loop
     μ-loop
-    none-requires
+    no-element-requires
     loop-holds
     element-at-requires
     mul-elements

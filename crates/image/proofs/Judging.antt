@@ -1,0 +1,41 @@
+-- What the number that parts are judged by says of them, and the number of an opened image's parts. Assumes nothing.
+use mathlib.Core.Path.{_≡_, refl, ap}
+use mathlib.Core.Bool.{Bool, true, false, cond}
+use mathlib.Core.List.{List}
+use Prim.Native.Nat.{ℕ, _≤_}
+use native.Mathlib.Omega.{arith}
+use Rattle.units.specs.Number.{numberOf}
+use Rattle.units.specs.declared.number.Number.{Number}
+use Rattle.units.specs.declared.number.Number.the-variants as number
+use Rattle.image.specs.Parts.{headerFits, curveSizesFit, curvesFit, elementsFit}
+use Rattle.image.specs.Conductance.{conductancesFit}
+use Rattle.image.specs.Setting.{plain}
+use Rattle.image.specs.Format.{opened, openingOf}
+use Rattle.image.specs.Judged.{judgedBy, judged}
+use Rattle.image.specs.Sound.{Sound}
+use Rattle.image.proofs.Opening.{opened-kept}
+use Rattle.image.proofs.Sound.{sound}
+use Rattle.image.specs.declared.parts.Parts.{Parts}
+
+-- a rule with a number of its own that gave 0 holds
+held : (n : Number) (b : Bool) (rest : Number) → 1 ≤ numberOf n → judgedBy n b rest ≡ number.Done → (b ≡ true) × (rest ≡ number.Done)
+held n true rest some e = (refl, e)
+held n false rest some e = absurd (omega (arith, ap numberOf e))
+
+-- parts that are judged by 0 are sound, and their conductances fit
+pub judged-sound : (parts : Parts) → judged parts ≡ number.Done → Sound parts × (conductancesFit parts plain ≡ true)
+unfolding judged
+judged-sound parts e =
+    let a = held number.Trailer (headerFits parts) _ (omega arith) e in
+    let b = held number.Sizes (curveSizesFit parts) _ (omega arith) (a .1) in
+    let c = held number.Curve (curvesFit parts) _ (omega arith) (b .1) in
+    let d = held number.Element (elementsFit parts) _ (omega arith) (c .1) in
+    let f = held number.Conductance (conductancesFit parts plain) _ (omega arith) (d .1) in
+    (sound parts (a .0) (b .0) (c .0) (d .0), f .0)
+
+-- those of an image that is opened break no rule but the sixth
+pub opened-judged : (image : List ℕ) (parts : Parts) → openingOf image ≡ opened parts → judged parts ≡ cond (conductancesFit parts plain) number.Done number.Conductance
+unfolding judged
+opened-judged image parts e =
+    let k = opened-kept image parts e in
+    rw (k .header, k .sizes, k .curves, k .elements)
