@@ -1,0 +1,4 @@
+pub mod PlaceLaws
+pub mod LineLaws
+pub mod Promise
+pub mod TextLaws

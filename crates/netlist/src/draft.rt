@@ -1,0 +1,192 @@
+// A circuit's parts as far as the lines have told them, and which settings these have said.
+use super::field;
+use super::said::Field;
+use super::said::Line;
+use super::said::Said;
+use image::Curve;
+use image::Element;
+use image::Parts;
+ghost use mathlib.Core.Path.{_≡_};
+ghost use Prim.Native.Nat.{max};
+ghost use lib.ListN.{set};
+ghost use Rattle.netlist.specs.Draft.{withElement, withCurve, withSetting, blankDraft, said, complete, faultOf, reparted, noted, withLine};
+
+pub struct Draft {
+    pub parts: Parts,
+    pub drives: bool,
+    pub output: bool,
+    pub rate: bool,
+}
+
+// What is wrong with a line: nothing, that it is outside the grammar, or its value.
+pub enum Fault {
+    Nothing,
+    Grammar,
+    Value,
+}
+
+// The version of a netlist's parts.
+const VERSION: u8 = 1;
+
+pub fn blank() -> Draft
+    ensures { λ r. ⌜ r ≡ blankDraft ⌝ }
+{
+    let mut parts = image::no_parts();
+    parts.version = VERSION;
+    Draft {
+        parts,
+        drives: false,
+        output: false,
+        rate: false,
+    }
+}
+
+fn highest(a: u8, b: u8) -> u8
+    ensures { λ r. ⌜ r ≡ max a b ⌝ }
+{
+    if a < b {
+        return b;
+    }
+    a
+}
+
+// A store, if there is room.
+fn with_element_at(elements: [Element; 32], j: usize, e: Element) -> [Element; 32]
+    ensures { λ r. ⌜ r ≡ set elements j e ⌝ }
+{
+    let mut more = elements;
+    if j < 32 {
+        more[j] = e;
+    }
+    more
+}
+
+fn with_curve_at(curves: [Curve; 8], k: usize, c: Curve) -> [Curve; 8]
+    ensures { λ r. ⌜ r ≡ set curves k c ⌝ }
+{
+    let mut more = curves;
+    if k < 8 {
+        more[k] = c;
+    }
+    more
+}
+
+fn with_element(parts: Parts, e: Element) -> Parts
+    ensures { λ r. ⌜ r ≡ withElement parts e ⌝ }
+{
+    let elements = parts.elements;
+    let more_elements = with_element_at(elements, parts.element_count as usize, e);
+    let mut more = parts;
+    more.elements = more_elements;
+    more.element_count = field::counted(parts.element_count);
+    more.nodes = highest(parts.nodes, highest(e.p, e.q));
+    more
+}
+
+fn with_curve(parts: Parts, c: Curve) -> Parts
+    ensures { λ r. ⌜ r ≡ withCurve parts c ⌝ }
+{
+    let curves = parts.curves;
+    let more_curves = with_curve_at(curves, parts.curve_count as usize, c);
+    let mut more = parts;
+    more.curves = more_curves;
+    more.curve_count = field::counted(parts.curve_count);
+    more
+}
+
+fn with_setting(parts: Parts, field: Field, n: u32) -> Parts
+    ensures { λ r. ⌜ r ≡ withSetting parts field n ⌝ }
+{
+    let mut more = parts;
+    match field {
+        Field::Drives => {
+            more.driven = field::narrow(n);
+        }
+        Field::Output => {
+            let node = field::narrow(n);
+            more.output = node;
+            more.nodes = highest(parts.nodes, node);
+        }
+        Field::Rate => {
+            more.rate = n;
+        }
+    }
+    more
+}
+
+fn has_said(draft: Draft, field: Field) -> bool
+    ensures { λ r. ⌜ r ≡ said draft field ⌝ }
+{
+    match field {
+        Field::Drives => draft.drives,
+        Field::Output => draft.output,
+        Field::Rate => draft.rate,
+    }
+}
+
+// Whether all settings have been said.
+pub fn complete(draft: Draft) -> bool
+    ensures { λ r. ⌜ r ≡ complete draft ⌝ }
+{
+    draft.drives & draft.output & draft.rate
+}
+
+// What is wrong with a line after those before it.
+pub fn fault_in(draft: Draft, line: Line) -> Fault
+    ensures { λ r. ⌜ r ≡ faultOf draft line ⌝ }
+{
+    match line {
+        Line::Broken => Fault::Grammar,
+        Line::Outside => Fault::Value,
+        Line::Setting(field, n) => {
+            if has_said(draft, field) {
+                return Fault::Grammar;
+            }
+            Fault::Nothing
+        }
+        Line::Empty => Fault::Nothing,
+        Line::Part(e) => Fault::Nothing,
+        Line::Curve => Fault::Nothing,
+    }
+}
+
+fn reparted(draft: Draft, parts: Parts) -> Draft
+    ensures { λ r. ⌜ r ≡ reparted draft parts ⌝ }
+{
+    let mut other = draft;
+    other.parts = parts;
+    other
+}
+
+fn noted(draft: Draft, field: Field) -> Draft
+    ensures { λ r. ⌜ r ≡ noted draft field ⌝ }
+{
+    let mut other = draft;
+    match field {
+        Field::Drives => {
+            other.drives = true;
+        }
+        Field::Output => {
+            other.output = true;
+        }
+        Field::Rate => {
+            other.rate = true;
+        }
+    }
+    other
+}
+
+// The draft with a line more.
+pub fn with_line(draft: Draft, line: Line, curve: Curve) -> Draft
+    ensures { λ r. ⌜ r ≡ withLine draft line curve ⌝ }
+{
+    let parts = draft.parts;
+    match line {
+        Line::Broken => draft,
+        Line::Empty => draft,
+        Line::Outside => draft,
+        Line::Part(e) => reparted(draft, with_element(parts, e)),
+        Line::Setting(field, n) => noted(reparted(draft, with_setting(parts, field, n)), field),
+        Line::Curve => reparted(draft, with_curve(parts, curve)),
+    }
+}
