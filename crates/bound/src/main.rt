@@ -5,7 +5,7 @@
 // before it: no free node is lower by B microvolts or more, and none is higher. Of a run, whose stored
 // currents drift from another's, it says nothing, nor of a circuit that is not this network: one
 // without the leak, with conductances between whole nanosiemens, or with curves that aren't straight.
-mod report;
+mod answer;
 
 use libc::STDOUT_FILENO;
 
@@ -20,7 +20,7 @@ fn report_on(i: usize) {
     let n = io::read_full(file, &mut image);
     libc::close(file);
     let mut text = io::buffer();
-    let end = report::put(&mut text, &image[..n]);
+    let end = answer::put(&mut text, &image[..n]);
     io::write_all(STDOUT_FILENO, &text[..end]);
 }
 

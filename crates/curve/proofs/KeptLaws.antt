@@ -13,7 +13,8 @@ use Rattle.network.specs.Network.{breakpointCountLimit}
 use Rattle.measured.specs.Measured.{mostPairs, refused}
 use Rattle.measured.specs.declared.drawing.Ending.the-variants.{Pairs}
 use Rattle.measured.proofs.Promise.{few, too-many}
-use Rattle.curve.specs.Text.{Told, told, broken, joined, lines, toldBy, answer, longestText, curveOf}
+use Rattle.console.specs.Words.{lines}
+use Rattle.curve.specs.Text.{Told, told, broken, joined, toldBy, answer, longestText, curveOf}
 use Rattle.curve.specs.Kept.{Sized, before, toldWith, Reads}
 use Rattle.curve.specs.declared.line.Line.the-variants.{Empty, Pair, Other}
 use Rattle.curve.specs.declared.pairs.Kept.{Kept}

@@ -1,3 +1,2 @@
 pub mod KeptLaws
-pub mod ReportLaws
 pub mod TextLaws

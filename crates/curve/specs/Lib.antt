@@ -1,3 +1,3 @@
+pub mod Answer
 pub mod Kept
-pub mod Report
 pub mod Text

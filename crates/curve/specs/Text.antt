@@ -6,7 +6,7 @@ use lib.Dec.{eqb, leb}
 use lib.IntN.{ℤ}
 use lib.ListN.{length}
 use Rattle.console.specs.Number.{spelt}
-use Rattle.console.specs.Words.{first, rest}
+use Rattle.console.specs.Words.{first, rest, lines}
 use Rattle.console.specs.declared.number.Spelt.{Spelt}
 use Rattle.console.specs.declared.number.Spelt.the-variants.{Nothing, Beyond, Value}
 use Rattle.console.specs.declared.words.Run.the-variants.{Blanks, Word, Said}
@@ -38,16 +38,6 @@ lineOf line =
     cond (eqb (length one) 0) Empty (cond (eqb (length (nextWord two)) 0) (pairOf (spelt (first Word one)) (spelt (first Word two))) Other)
 
 -- ---- a text
-
--- a byte more at the start of the first of these lines
-abbrev pub onto : ℕ → List (List ℕ) → List (List ℕ)
-onto b [] = (b ∷ []) ∷ []
-onto b (line ∷ lines) = (b ∷ line) ∷ lines
-
--- a text's lines, between its line feeds
-unfoldable pub lines : List ℕ → List (List ℕ)
-lines [] = [] ∷ []
-lines (b ∷ text) = cond (eqb b 10) ([] ∷ lines text) (onto b (lines text))
 
 -- what lines say together: the voltages and the currents of all pairs, or nothing where a line says something else
 pub data Told : Type 0 where

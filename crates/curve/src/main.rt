@@ -1,10 +1,10 @@
 // Curves from the bench: the arguments name measured lists, texts of two whole numbers a line,
 // microvolts and femtoamperes. Writes the slopes and the breakpoints of each, or `refused R`. No
 // contract can say what is read or written, so this file is there to be read: what the lines are is
-// promised by `report::put`.
+// promised by `answer::put`.
+mod answer;
 mod line;
 mod pairs;
-mod report;
 
 use libc::STDOUT_FILENO;
 
@@ -19,7 +19,7 @@ fn report_on(i: usize) {
     let n = io::read_full(file, &mut list);
     libc::close(file);
     let mut text = io::buffer();
-    let end = report::put(&mut text, &list[..n]);
+    let end = answer::put(&mut text, &list[..n]);
     io::write_all(STDOUT_FILENO, &text[..end]);
 }
 

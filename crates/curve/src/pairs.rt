@@ -9,7 +9,8 @@ ghost use mathlib.Core.Path.{_≡_};
 ghost use mathlib.Core.List.{[]};
 ghost use Prim.Native.Nat.{_≤_};
 ghost use lib.ListN.{length};
-ghost use Rattle.curve.specs.Text.{told, lineOf, lines, toldBy, answer, longestText, curveOf};
+ghost use Rattle.console.specs.Words.{lines};
+ghost use Rattle.curve.specs.Text.{told, lineOf, toldBy, answer, longestText, curveOf};
 ghost use Rattle.curve.specs.Kept.{Sized, Reads, toldWith};
 ghost use Rattle.curve.specs.declared.line.Line.the-variants.{Pair};
 

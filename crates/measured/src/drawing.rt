@@ -43,11 +43,7 @@ pub fn number(ending: Ending) -> u64
 pub fn refused(ending: Ending) -> Measured
     ensures { λ r. ⌜ r ≡ refused ending ⌝ }
 {
-    let curve = Curve {
-        count: 0,
-        slopes: [0; 17],
-        breakpoints: [0; 16],
-    };
+    let curve = image::no_curve();
     Measured { ending, curve }
 }
 

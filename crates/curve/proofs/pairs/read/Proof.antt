@@ -1,4 +1,4 @@
-use mathlib.Core.Path.{_≡_, refl, sym, _∙_, ap}
+use mathlib.Core.Path.{_≡_, sym, _∙_, ap}
 use mathlib.Core.List.{[]}
 use Prim.Native.Nat.{ℕ, suc, _+_, _-_, _≤_}
 use native.Mathlib.Omega.{arith}
@@ -6,10 +6,10 @@ use lib.ListN.{length, take, drop, length-drop, drop-of-length-le}
 use lib.Seq.{drop-drop, length-take-le, take-all}
 use denote.Ref.{now}
 use borrow.Author.Needs.{needs}
-use Rattle.console.specs.Words.{belongs, first}
+use Rattle.console.specs.Words.{belongs, first, lines}
 use Rattle.console.specs.declared.words.Run.the-variants.{Line}
 use Rattle.console.proofs.WordLaws.{leading-most}
-use Rattle.curve.specs.Text.{Told, lines, toldBy, answer}
+use Rattle.curve.specs.Text.{Told, toldBy, answer}
 use Rattle.curve.specs.Kept.{Sized, toldWith}
 use Rattle.curve.proofs.TextLaws.{lineLength, told-none, told-first}
 use Rattle.curve.proofs.KeptLaws.{start-tells}
@@ -69,7 +69,7 @@ loop-again c =
     let next : drop (l .at + (length (now (c .before .first .result)) + 1)) text ≡ drop (suc n) rest = ap (λ (i : ℕ). drop i text) at ∙ sym (drop-drop (suc n) (l .at) text) in
     let read = c .read-line .ensures in (
       omega (arith, at, few, length-drop (l .at) text),
-      rw next (read .same (toldBy (lines (drop (suc n) rest))) ∙ ap (λ (t : Told). answer (toldWith (l .kept) t)) (rw line (sym (told-first rest))) ∙ l .inv .1),
+      rw next (read .same (toldBy (lines (drop (suc n) rest))) ∙ ap (λ (t : Told). answer (toldWith (l .kept) t)) (rw line (sym (told-first rest (λ e. omega (arith, e, length-drop (l .at) text))))) ∙ l .inv .1),
       read .sized,
     )
 

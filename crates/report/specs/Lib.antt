@@ -1,0 +1,4 @@
+pub mod Curve
+pub mod Fields
+pub mod Nodes
+pub mod Parts
