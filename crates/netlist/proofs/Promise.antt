@@ -8,12 +8,14 @@ use Prim.Native.Nat.{ℕ, suc, _+_, _-_, _≤_, _<_}
 use native.Mathlib.Nat.{sub-self}
 use native.Mathlib.Omega.{arith}
 use lib.ListN.{length, getD}
+use borrow.Author.Tests.{eq-eqb}
 use Rattle.units.specs.Number as numbers
 use Rattle.units.specs.declared.number.Number.{Number}
 use Rattle.units.specs.declared.number.Number.the-variants as number
 use Rattle.console.specs.Words.{first, lines}
 use Rattle.console.specs.declared.words.Run.the-variants as run
 use Rattle.image.specs.Judged.{judged}
+use Rattle.image.specs.declared.parts.Parts.{Parts}
 use Rattle.netlist.specs.Draft.{blankDraft, said, complete, again, faultOf, withLine}
 use Rattle.netlist.specs.Text.{longestText, SaysLine, Netlist, end, line, InGrammar}
 use Rattle.netlist.specs.Answer.{numberOf, lineOf, refused, judgedAnswer, atEnd, Answered, ended, unread, repeated, beyond, passed, Answers, long, read}
@@ -201,3 +203,38 @@ outside-at (passed {n = n} {a = a} x s k rest) e =
 pub value-outside : (text : List ℕ) {a : Answer} → Answers text a → numberOf (a .verdict) ≡ 15 → (1 ≤ lineOf (a .verdict)) × OutsideAt (lines text) (lineOf (a .verdict) - 1)
 value-outside text (long h) e = absurd (omega (arith, e))
 value-outside text (read h rest) e = outside-at rest e
+
+-- ---- what is accepted
+
+only-done : (n : Number) → numbers.numberOf n ≡ 0 → n ≡ number.Done
+only-done number.Done e = refl
+only-done number.Length e = absurd (omega (arith, e))
+only-done number.Trailer e = absurd (omega (arith, e))
+only-done number.Sizes e = absurd (omega (arith, e))
+only-done number.Curve e = absurd (omega (arith, e))
+only-done number.Element e = absurd (omega (arith, e))
+only-done number.Conductance e = absurd (omega (arith, e))
+only-done number.State e = absurd (omega (arith, e))
+only-done number.Lengths e = absurd (omega (arith, e))
+only-done number.Drive e = absurd (omega (arith, e))
+only-done number.Rail e = absurd (omega (arith, e))
+only-done number.Stored e = absurd (omega (arith, e))
+
+judged-accepted : (parts : Parts) → numberOf (judgedAnswer parts .verdict) ≡ 0 → judged (judgedAnswer parts .parts) ≡ number.Done
+judged-accepted parts e = rw (eq-eqb (numbers.numberOf (judged parts)) 0 e) (only-done (judged parts) e)
+
+answered-accepted : {text : List (List ℕ)} {n : ℕ} {d : Draft} {a : Answer} → Answered text n d a → numberOf (a .verdict) ≡ 0 → judged (a .parts) ≡ number.Done
+answered-accepted (ended {n = n} {d = d}) e = go (complete d) refl
+  where
+    go : (t : Bool) → complete d ≡ t → judged (atEnd n d .parts) ≡ number.Done
+    go true q = rw (end-complete n d q) (judged-accepted (d .parts) (rw (end-complete n d q) at e))
+    go false q = absurd (omega (arith, rw (end-missing n d q) at e))
+answered-accepted (unread h) e = absurd (omega (arith, e))
+answered-accepted (repeated x s k) e = absurd (omega (arith, e))
+answered-accepted (beyond x s k) e = absurd (omega (arith, e))
+answered-accepted (passed x s k rest) e = answered-accepted rest e
+
+-- parts that come with 0 keep every rule
+pub accepted-judged : (text : List ℕ) {a : Answer} → Answers text a → numberOf (a .verdict) ≡ 0 → judged (a .parts) ≡ number.Done
+accepted-judged text (long h) e = absurd (omega (arith, e))
+accepted-judged text (read h rest) e = answered-accepted rest e
