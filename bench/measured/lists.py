@@ -116,16 +116,15 @@ def anything(dice):
     return text(dice, noise, lines)
 
 
-def long(length):
-    """A legal text of so many bytes, nearly all of them a comment before its pairs."""
-    pairs = b"0 0\n5 10\n"
-    return b";" * (length - len(pairs) - 1) + b"\n" + pairs
+def long(length, end):
+    """A text of so many bytes, nearly all of them a comment before its end."""
+    return b";" * (length - len(end) - 1) + b"\n" + end
 
 
 def main(count, folder, seed=1):
     dice = random.Random(int(seed))
     for number in range(int(count)):
-        made = long(MOST_BYTES + number) if number < 2 else anything(dice)
+        made = long(MOST_BYTES + number, b"0 0\n5 10\n") if number < 2 else anything(dice)
         (pathlib.Path(folder) / f"{number}.pairs").write_bytes(made)
 
 

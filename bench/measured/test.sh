@@ -4,6 +4,7 @@
 # PROGRAM names another program to be held against it.
 set -e
 cd "$(dirname "$0")/../.."
+. bench/texts.sh
 count=${1:-10000}
 program=${PROGRAM:-./run curve}
 bench/build.sh
@@ -25,21 +26,6 @@ done
 echo "examples/diode.pairs: the bench's diode; examples/clipper.txt: its clipper"
 
 python3 bench/measured/lists.py "$count" "$room"
-# The lines of a program for every list, 1,000 of them at a time.
-lines_of() {
-    seq 0 $((count - 1)) | sed "s|.*|$room/&.pairs|" | xargs -n 1000 "$@"
-}
-lines_of target/bench/curve >"$room/second"
-lines_of $program >"$room/other"
-cmp -s "$room/second" "$room/other" || {
-    first=$(awk 'NR == FNR { second[FNR] = $0; next } $0 != second[FNR] { exit } /^(breakpoints|refused) / { list++ } END { print list + 0 }' "$room/second" "$room/other")
-    echo "$program writes other lines than the second program, first for $room/$first.pairs"
-    exit 1
-}
-ending() { grep -c "^$1" "$room/second" || true; }
-curves=$(ending 'breakpoints ') twelve=$(ending 'refused 12$') thirteen=$(ending 'refused 13$')
-[ $((curves + twelve + thirteen)) = "$count" ] || {
-    echo "$count lists have $((curves + twelve + thirteen)) endings"
-    exit 1
-}
+hold target/bench/curve "$program" "$room" pairs "$count" 'breakpoints|refused'
+curves=$(ending "$room" 'breakpoints ') twelve=$(ending "$room" 'refused 12$') thirteen=$(ending "$room" 'refused 13$')
 echo "$count lists: $curves curves, $twelve refused 12, $thirteen refused 13; the same lines from both"

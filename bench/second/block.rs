@@ -1,6 +1,7 @@
 //! A block: an image, a state, a number of samples and their drives in; a number, a count, outputs and the state after it out.
 
-use crate::image::{self, signed, Circuit, Kind, MOST_ELEMENTS};
+use crate::circuit::{Circuit, Kind, MOST_ELEMENTS};
+use crate::image::{self, signed};
 use crate::network::Network;
 use crate::search;
 

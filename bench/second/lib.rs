@@ -1,6 +1,7 @@
 //! The block for a host written in C.
 
 mod block;
+mod circuit;
 mod image;
 mod network;
 mod search;

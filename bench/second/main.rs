@@ -1,6 +1,7 @@
 //! Renders an image file and a drive file: one line per sample, then how it ended.
 
 mod block;
+mod circuit;
 mod image;
 mod network;
 mod search;

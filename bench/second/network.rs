@@ -1,8 +1,6 @@
 //! A circuit's currents: of a curve, of an element, out of a node; and what its elements store after a sample.
 
-use crate::image::{Circuit, Curve, Element, Kind};
-
-pub const LEAK: i128 = 1;
+use crate::circuit::{Circuit, Curve, Element, Kind, LEAK};
 
 /// The current of a curve: its slopes added up over the way from zero to `volts`.
 fn curve_current(curve: &Curve, volts: i128) -> i128 {

@@ -3,6 +3,7 @@
 
 mod block;
 mod brute;
+mod circuit;
 mod image;
 mod measured;
 mod network;

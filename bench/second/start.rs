@@ -1,8 +1,7 @@
 //! A place to start from, in f64: where all net currents about vanish. It saves time and decides nothing: the search that starts there
 //! ends at the same voltages from anywhere.
 
-use crate::image::{Circuit, Curve, Kind};
-use crate::network::LEAK;
+use crate::circuit::{Circuit, Curve, Kind, LEAK};
 
 const ROUNDS: usize = 30;
 /// In microvolts: beyond nearly all that stored currents can bring about, and near enough for i128. Differences are then below 2^54, the net

@@ -1,0 +1,40 @@
+#!/bin/sh
+# test.sh [COUNT]: holds the proved program `netlist` against the second one, and every byte of their lines is compared: on the examples, which must be the bench's
+# cases; on a resistor with every short value and with long ones, of which Python says too what they come to; on the largest texts, on a small one with every byte
+# everywhere, and on random ones, 5,000 unless said.
+# PROGRAM names another program to be held against it.
+set -e
+cd "$(dirname "$0")/../.."
+. bench/texts.sh
+count=${1:-5000}
+program=${PROGRAM:-./run netlist}
+bench/build.sh
+room=target/bench/nets
+rm -rf "$room"
+mkdir -p "$room/values" "$room/texts"
+for one in target/bench/netlist "$program"; do
+    python3 bench/netlist/parts.py $one
+done
+
+# The outcomes of a folder's texts in words.
+outcomes() {
+    printf '%s accepted' "$(ending "$1" 'greatest ')"
+    for number in 14 15 2 3 4 5 6; do
+        printf ', %s refused %s' "$(ending "$1" "refused $number( |$)")" $number
+    done
+}
+values=$(python3 bench/netlist/values.py "$room/values")
+hold target/bench/netlist "$program" "$room/values" net "$values" 'greatest|refused'
+cmp "$room/values/second" "$room/values/expected"
+echo "$values values: $(outcomes "$room/values"); the same lines from both, and Python's"
+
+texts=$(python3 bench/netlist/texts.py "$count" "$room/texts")
+hold target/bench/netlist "$program" "$room/texts" net "$texts" 'greatest|refused'
+# The largest are the divider as it is, one byte too many, and a line that is missed after 65,535 others.
+{
+    target/bench/netlist examples/divider.net
+    echo refused 14 line 0
+    echo refused 14 line 65536
+} >"$room/largest"
+head -n "$(wc -l <"$room/largest")" "$room/texts/second" | cmp - "$room/largest"
+echo "$texts texts, $count of them random: $(outcomes "$room/texts"); the same lines from both"
