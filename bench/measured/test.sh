@@ -28,4 +28,8 @@ echo "examples/diode.pairs: the bench's diode; examples/clipper.txt: its clipper
 python3 bench/measured/lists.py "$count" "$room"
 hold target/bench/curve "$program" "$room" pairs "$count" 'breakpoints|refused'
 curves=$(ending "$room" 'breakpoints ') twelve=$(ending "$room" 'refused 12$') thirteen=$(ending "$room" 'refused 13$')
+[ $((curves + twelve + thirteen)) = "$count" ] || {
+    echo "$count lists have $((curves + twelve + thirteen)) endings"
+    exit 1
+}
 echo "$count lists: $curves curves, $twelve refused 12, $thirteen refused 13; the same lines from both"

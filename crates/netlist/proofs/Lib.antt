@@ -1,4 +1,8 @@
 pub mod PlaceLaws
 pub mod LineLaws
-pub mod Promise
+pub mod KeptCurves
+pub mod KeptDrafts
+pub mod KeptRules
+pub mod KeptJudged
 pub mod TextLaws
+pub mod Promise

@@ -1,6 +1,6 @@
 -- What a line begins with, what its readers may answer, and that it has one reading. Assumes nothing.
 use mathlib.Core.Path.{_≡_, refl, sym, _∙_, ap}
-use mathlib.Core.Bool.{Bool, true, false, _&&_, cond, false≢true}
+use mathlib.Core.Bool.{Bool, true, false, cond, false≢true}
 use mathlib.Core.List.{List, [], _∷_}
 use Prim.Native.Nat.{ℕ}
 use native.Mathlib.Omega.{arith}
@@ -15,8 +15,8 @@ use Rattle.image.specs.declared.parts.Curve.{Curve}
 use Rattle.ohms.specs.Worth.{stage}
 use Rattle.ohms.specs.declared.stages.Worth.{Worth}
 use Rattle.ohms.specs.declared.stages.Worth.the-variants.{Within, Outside}
-use Rattle.netlist.specs.Curve.{byte}
-use Rattle.netlist.specs.Line.{same, valuePlace, openerOf, elementLine, plainLine, just, SaysBy, Says, RightBy, Right}
+use Rattle.netlist.specs.Kept.{keptLine, keptSaid, KeptOf, RightBy, Right}
+use Rattle.netlist.specs.Line.{same, valuePlace, openerOf, elementLine, plainLine, just, SaysBy, Says}
 use Rattle.netlist.specs.declared.line.Opener.{Opener}
 use Rattle.netlist.specs.declared.line.Opener.the-variants.{Empty, Resistor, Plain, Setting, Curves, Other}
 use Rattle.netlist.specs.declared.said.Line.{Line}
@@ -48,29 +48,20 @@ same-is (a ∷ s) (b ∷ t) e =
 
 -- ---- right answers
 
--- what is said is right
-pub right-said : (Meant : Said → Type 0) (x : Said) → (x .line ≡ line.Broken → ⊥) → Meant x → Right Meant x
+-- what is said is right, as it is kept
+pub right-said : (Meant : Said → Type 0) (x : Said) → (x .line ≡ line.Broken → ⊥) → Meant x → Right Meant (keptSaid x)
 right-said Meant x h m = go (x .line) h
   where
-    go : (l : Line) → (l ≡ line.Broken → ⊥) → RightBy Meant l x
-    go line.Broken h = absurd (h refl)
-    go line.Empty h = m
-    go line.Outside h = m
-    go (line.Part e) h = m
-    go (line.Setting field n) h = m
-    go line.Curve h = m
+    kept : KeptOf Meant (keptSaid x)
+    kept = record { whole = x; meant = m; kept = refl }
 
--- and what is right was said, unless it is Broken
-pub said-right : (Meant : Said → Type 0) (x : Said) → Right Meant x → (x .line ≡ line.Broken → ⊥) → Meant x
-said-right Meant x r h = go (x .line) h r
-  where
-    go : (l : Line) → (l ≡ line.Broken → ⊥) → RightBy Meant l x → Meant x
-    go line.Broken h r = absurd (h refl)
-    go line.Empty h r = r
-    go line.Outside h r = r
-    go (line.Part e) h r = r
-    go (line.Setting field n) h r = r
-    go line.Curve h r = r
+    go : (l : Line) → (l ≡ line.Broken → ⊥) → RightBy Meant (keptLine l) (keptSaid x)
+    go line.Broken h = absurd (h refl)
+    go line.Empty h = kept
+    go line.Outside h = kept
+    go (line.Part e) h = kept
+    go (line.Setting field n) h = kept
+    go line.Curve h = kept
 
 -- a line with a value is not broken
 pub element-whole : (kind curve : ℕ) (s : List ℕ) (w : Worth) → elementLine kind curve s w ≡ line.Broken → ⊥
@@ -80,8 +71,8 @@ element-whole kind curve s Outside e = let z : _≡_ {A = ℕ} 0 1 = cc in omega
 pub plain-whole : (kind : ℕ) (s : List ℕ) → plainLine kind s ≡ line.Broken → ⊥
 plain-whole kind s = go (eqb kind diodeKind)
   where
-    go : (t : Bool) → cond t (elementLine kind (byte (worthAt s (valuePlace s))) s (Within 0)) (elementLine kind 0 s (stage (worthAt s (valuePlace s)))) ≡ line.Broken → ⊥
-    go true = element-whole kind (byte (worthAt s (valuePlace s))) s (Within 0)
+    go : (t : Bool) → cond t (elementLine kind (worthAt s (valuePlace s)) s (Within 0)) (elementLine kind 0 s (stage (worthAt s (valuePlace s)))) ≡ line.Broken → ⊥
+    go true = element-whole kind (worthAt s (valuePlace s)) s (Within 0)
     go false = element-whole kind 0 s (stage (worthAt s (valuePlace s)))
 
 -- ---- one reading

@@ -1,22 +1,23 @@
 -- Words and numbers on a line: where they stand, and that a curve's numbers have one reading. Assumes nothing.
-use mathlib.Core.Path.{_≡_, refl, sym, _∙_, ap}
-use mathlib.Core.Bool.{Bool, true, false, _&&_, cond, false≢true}
+use mathlib.Core.Path.{_≡_, refl, sym, _∙_}
+use mathlib.Core.Bool.{Bool, true, false, cond, false≢true}
 use mathlib.Core.List.{List}
 use mathlib.Core.Logic.{⊎-elim}
-use Prim.Native.Nat.{ℕ, zero, suc, _+_, _≤_, _<_}
+use Prim.Native.Nat.{ℕ, _+_, _≤_, _<_}
 use native.Mathlib.Omega.{arith}
 use lib.Dec.{eqb, ltb}
 use lib.ListN.{length, getD, List·getD-eq-default}
 use borrow.Author.Tests.{ltb-true, eqb-true}
 use Rattle.units.proofs.Every.{both}
 use Rattle.units.proofs.Integers.{decideN}
+use Rattle.console.specs.Number.{worthAt}
 use Rattle.console.specs.Words.{past}
 use Rattle.console.specs.declared.words.Run.{Run}
 use Rattle.console.specs.declared.words.Run.the-variants.{Blanks, Digits}
 use Rattle.console.proofs.WordLaws.{past-within, past-within-some}
 use Rattle.image.specs.Parts.{noCurve}
 use Rattle.image.specs.declared.parts.Curve.{Curve}
-use Rattle.netlist.specs.Curve.{next, stands, ends, slopeAt, minusAt, digitsAt, breakpointAt, stretchStands, afterStretch, withStretch, withSlope, Stretches, last, more}
+use Rattle.netlist.specs.Curve.{next, stands, ends, minusAt, digitsAt, breakpointAt, stretchStands, afterStretch, withStretch, withSlope, Stretches, last, more}
 
 -- a word stands before the end, and what follows on it is further on, and not past the end
 pub record Stood (run : Run) (s : List ℕ) (i : ℕ) : Type 0 where
@@ -89,17 +90,17 @@ pub record Drawing (s : List ℕ) (from at : ℕ) (c : Curve) : Type 0 where
   pub back : {whole : Curve} → Stretches s from noCurve whole → Stretches s at c whole
 
 module _ (s : List ℕ) (from at : ℕ) (c : Curve) (drawing : Drawing s from at c) where
-  pub drawing-more : stretchStands s at ≡ true → Drawing s from (afterStretch s at) (withStretch c (slopeAt s at) (breakpointAt s (next Digits s at)))
+  pub drawing-more : stretchStands s at ≡ true → Drawing s from (afterStretch s at) (withStretch c (worthAt s at) (breakpointAt s (next Digits s at)))
   drawing-more e = record {
     onward = λ r. drawing .onward (more e r);
     back = λ r. rest (drawing .back r);
   }
     where
-      rest : {whole : Curve} → Stretches s at c whole → Stretches s (afterStretch s at) (withStretch c (slopeAt s at) (breakpointAt s (next Digits s at))) whole
+      rest : {whole : Curve} → Stretches s at c whole → Stretches s (afterStretch s at) (withStretch c (worthAt s at) (breakpointAt s (next Digits s at))) whole
       rest (last f) = absurd (ends-or-goes-on s at f e)
       rest (more f r) = r
 
-  pub drawing-last : ends s at ≡ true → Stretches s from noCurve (withSlope c (slopeAt s at))
+  pub drawing-last : ends s at ≡ true → Stretches s from noCurve (withSlope c (worthAt s at))
   drawing-last e = drawing .onward (last e)
 
   pub drawing-broken : stretchStands s at ≡ false → ends s at ≡ false → {whole : Curve} → Stretches s from noCurve whole → ⊥

@@ -1,23 +1,24 @@
 -- What the reader's promise comes to: a text has one reading and one answer; 14 is given for no text of the grammar, and any other text gets it unless a
 -- value on an earlier line is refused before; what is read is in the grammar. Assumes nothing.
-use mathlib.Core.Path.{_≡_, refl, sym, _∙_, ap}
-use mathlib.Core.Bool.{Bool, true, false, cond}
-use mathlib.Core.List.{List, [], _∷_}
+use mathlib.Core.Path.{_≡_, refl, _∙_, ap}
+use mathlib.Core.Bool.{Bool, true, false}
+use mathlib.Core.List.{List, []}
 use mathlib.Core.Logic.{_⊎_, inl, inr}
 use Prim.Native.Nat.{ℕ, suc, _+_, _-_, _≤_, _<_}
 use native.Mathlib.Nat.{sub-self}
 use native.Mathlib.Omega.{arith}
-use lib.ListN.{length, getD}
-use borrow.Author.Tests.{eq-eqb}
+use lib.Dec.{eqb}
+use lib.ListN.{getD}
+use borrow.Author.Tests.{eq-eqb, eqb-true, eqb-false}
 use Rattle.units.specs.Number as numbers
-use Rattle.units.specs.declared.number.Number.{Number}
-use Rattle.units.specs.declared.number.Number.the-variants as number
+use Rattle.units.specs.declared.number.Number.the-variants.{Done}
+use Rattle.units.proofs.Numbers.{number-small, done-only}
 use Rattle.console.specs.Words.{first, lines}
 use Rattle.console.specs.declared.words.Run.the-variants as run
 use Rattle.image.specs.Judged.{judged}
 use Rattle.image.specs.declared.parts.Parts.{Parts}
-use Rattle.netlist.specs.Draft.{blankDraft, said, complete, again, faultOf, withLine}
-use Rattle.netlist.specs.Text.{longestText, SaysLine, Netlist, end, line, InGrammar}
+use Rattle.netlist.specs.Draft.{said, complete, again, faultOf, withLine}
+use Rattle.netlist.specs.Text.{SaysLine, Netlist, end, line, InGrammar}
 use Rattle.netlist.specs.Answer.{numberOf, lineOf, refused, judgedAnswer, atEnd, Answered, ended, unread, repeated, beyond, passed, Answers, long, read}
 use Rattle.netlist.specs.declared.draft.Draft.{Draft}
 use Rattle.netlist.specs.declared.draft.Fault.{Fault}
@@ -26,7 +27,6 @@ use Rattle.netlist.specs.declared.said.Line.{Line}
 use Rattle.netlist.specs.declared.said.Line.the-variants as saying
 use Rattle.netlist.specs.declared.said.Said.{Said}
 use Rattle.netlist.specs.declared.reader.Answer.{Answer}
-use Rattle.netlist.specs.declared.reader.Verdict.{Verdict}
 use Rattle.netlist.specs.declared.reader.Verdict.the-variants as verdict
 use Rattle.netlist.proofs.LineLaws.{says-once}
 
@@ -90,21 +90,6 @@ answer-once text (read h rest) (read k rest') = answered-once rest rest'
 
 -- ---- the grammar and the answers
 
--- the rules' numbers are neither 14 nor 15
-rule-low : (n : Number) → numbers.numberOf n < 14
-rule-low number.Done = omega arith
-rule-low number.Length = omega arith
-rule-low number.Trailer = omega arith
-rule-low number.Sizes = omega arith
-rule-low number.Curve = omega arith
-rule-low number.Element = omega arith
-rule-low number.Conductance = omega arith
-rule-low number.State = omega arith
-rule-low number.Lengths = omega arith
-rule-low number.Drive = omega arith
-rule-low number.Rail = omega arith
-rule-low number.Stored = omega arith
-
 -- at the end of lines that said all settings, and that did not
 end-complete : (n : ℕ) (d : Draft) → complete d ≡ true → atEnd n d ≡ judgedAnswer (d .parts)
 unfolding atEnd
@@ -131,7 +116,7 @@ pub grammar-read : (text : List ℕ) {whole : Draft} {a : Answer} → InGrammar 
 grammar-read text {whole = whole} {a = a} g h e = go (grammar-judged text g h)
   where
     go : (a ≡ judgedAnswer (whole .parts)) ⊎ (numberOf (a .verdict) ≡ 15) → ⊥
-    go (inl q) = omega (arith, e, ap (λ (b : Answer). numberOf (b .verdict)) q, rule-low (judged (whole .parts)))
+    go (inl q) = omega (arith, e, ap (λ (b : Answer). numberOf (b .verdict)) q, number-small (judged (whole .parts)))
     go (inr q) = omega (arith, e, q)
 
 -- there is a reading
@@ -189,7 +174,7 @@ outside-at : {text : List (List ℕ)} {n : ℕ} {d : Draft} {a : Answer} → Ans
 outside-at (ended {n = n} {d = d}) e = go (complete d) refl
   where
     go : (t : Bool) → complete d ≡ t → (n ≤ lineOf (atEnd n d .verdict)) × OutsideAt [] (lineOf (atEnd n d .verdict) - n)
-    go true q = absurd (omega (arith, e, ap (λ (b : Answer). numberOf (b .verdict)) (end-complete n d q), rule-low (judged (d .parts))))
+    go true q = absurd (omega (arith, e, ap (λ (b : Answer). numberOf (b .verdict)) (end-complete n d q), number-small (judged (d .parts))))
     go false q = absurd (omega (arith, e, ap (λ (b : Answer). numberOf (b .verdict)) (end-missing n d q)))
 outside-at (unread h) e = absurd (omega (arith, e))
 outside-at (repeated x s k) e = absurd (omega (arith, e))
@@ -204,29 +189,23 @@ pub value-outside : (text : List ℕ) {a : Answer} → Answers text a → number
 value-outside text (long h) e = absurd (omega (arith, e))
 value-outside text (read h rest) e = outside-at rest e
 
+-- so of texts with no such line, 14 is given exactly for those that have no reading
+pub outside-14 : (text : List ℕ) {a : Answer} → Answers text a → ((k : ℕ) → OutsideAt (lines text) k → ⊥) → (Readable text → ⊥) → numberOf (a .verdict) ≡ 14
+outside-14 text {a = a} h within unreadable = go (eqb (numberOf (a .verdict)) 14) refl
+  where
+    go : (t : Bool) → eqb (numberOf (a .verdict)) 14 ≡ t → numberOf (a .verdict) ≡ 14
+    go true e = eqb-true (numberOf (a .verdict)) 14 e
+    go false e = absurd (unreadable (read-in-grammar text h (eqb-false (numberOf (a .verdict)) 14 e) (λ q. within (lineOf (a .verdict) - 1) (value-outside text h q .1))))
+
 -- ---- what is accepted
 
-only-done : (n : Number) → numbers.numberOf n ≡ 0 → n ≡ number.Done
-only-done number.Done e = refl
-only-done number.Length e = absurd (omega (arith, e))
-only-done number.Trailer e = absurd (omega (arith, e))
-only-done number.Sizes e = absurd (omega (arith, e))
-only-done number.Curve e = absurd (omega (arith, e))
-only-done number.Element e = absurd (omega (arith, e))
-only-done number.Conductance e = absurd (omega (arith, e))
-only-done number.State e = absurd (omega (arith, e))
-only-done number.Lengths e = absurd (omega (arith, e))
-only-done number.Drive e = absurd (omega (arith, e))
-only-done number.Rail e = absurd (omega (arith, e))
-only-done number.Stored e = absurd (omega (arith, e))
+judged-accepted : (parts : Parts) → numberOf (judgedAnswer parts .verdict) ≡ 0 → judged (judgedAnswer parts .parts) ≡ Done
+judged-accepted parts e = rw (eq-eqb (numbers.numberOf (judged parts)) 0 e) (done-only (judged parts) e)
 
-judged-accepted : (parts : Parts) → numberOf (judgedAnswer parts .verdict) ≡ 0 → judged (judgedAnswer parts .parts) ≡ number.Done
-judged-accepted parts e = rw (eq-eqb (numbers.numberOf (judged parts)) 0 e) (only-done (judged parts) e)
-
-answered-accepted : {text : List (List ℕ)} {n : ℕ} {d : Draft} {a : Answer} → Answered text n d a → numberOf (a .verdict) ≡ 0 → judged (a .parts) ≡ number.Done
+answered-accepted : {text : List (List ℕ)} {n : ℕ} {d : Draft} {a : Answer} → Answered text n d a → numberOf (a .verdict) ≡ 0 → judged (a .parts) ≡ Done
 answered-accepted (ended {n = n} {d = d}) e = go (complete d) refl
   where
-    go : (t : Bool) → complete d ≡ t → judged (atEnd n d .parts) ≡ number.Done
+    go : (t : Bool) → complete d ≡ t → judged (atEnd n d .parts) ≡ Done
     go true q = rw (end-complete n d q) (judged-accepted (d .parts) (rw (end-complete n d q) at e))
     go false q = absurd (omega (arith, rw (end-missing n d q) at e))
 answered-accepted (unread h) e = absurd (omega (arith, e))
@@ -235,6 +214,6 @@ answered-accepted (beyond x s k) e = absurd (omega (arith, e))
 answered-accepted (passed x s k rest) e = answered-accepted rest e
 
 -- parts that come with 0 keep every rule
-pub accepted-judged : (text : List ℕ) {a : Answer} → Answers text a → numberOf (a .verdict) ≡ 0 → judged (a .parts) ≡ number.Done
+pub accepted-judged : (text : List ℕ) {a : Answer} → Answers text a → numberOf (a .verdict) ≡ 0 → judged (a .parts) ≡ Done
 accepted-judged text (long h) e = absurd (omega (arith, e))
 accepted-judged text (read h rest) e = answered-accepted rest e

@@ -1,9 +1,9 @@
 -- The numbers of a line, and a curve's: slope, breakpoint, slope, .., slope. s is what a line says, up to its comment; i is a place in it. Past the end
--- of s its bytes read as 0. Assumes nothing.
+-- of s its bytes read as 0. Numbers are of any size. Assumes nothing.
 use mathlib.Core.Path.{_≡_}
 use mathlib.Core.Bool.{Bool, true, _&&_, cond}
 use mathlib.Core.List.{List}
-use Prim.Native.Nat.{ℕ, suc, _+_, min}
+use Prim.Native.Nat.{ℕ, suc, _+_}
 use lib.Dec.{eqb, ltb}
 use lib.IntN.{ℤ}
 use lib.ListN.{length, getD, set}
@@ -28,18 +28,7 @@ stands run s i = ltb i (past run s i) && ltb (past run s i) (next run s i)
 abbrev pub ends : List ℕ → ℕ → Bool
 ends s i = ltb i (past Digits s i) && eqb (next Digits s i) (length s)
 
--- a number in a field of the image: one that is too large for the field is the field's greatest, which no rule lets pass
-abbrev pub byte : ℕ → ℕ
-byte n = min n 255
-
-abbrev pub word : ℕ → ℕ
-word n = min n 4294967295
-
 -- ---- curves
-
--- a slope: a number
-abbrev pub slopeAt : List ℕ → ℕ → ℕ
-slopeAt s i = word (worthAt s i)
 
 -- a breakpoint: a number, with a minus right before it or not
 abbrev pub minusAt : List ℕ → ℕ → Bool
@@ -49,7 +38,7 @@ abbrev pub digitsAt : List ℕ → ℕ → ℕ
 digitsAt s i = cond (minusAt s i) (i + 1) i
 
 abbrev pub breakpointAt : List ℕ → ℕ → ℤ
-breakpointAt s i = signed (minusAt s i) (min (worthAt s (digitsAt s i)) 2147483647)
+breakpointAt s i = signed (minusAt s i) (worthAt s (digitsAt s i))
 
 -- a slope stands at i, and a breakpoint after it
 abbrev pub stretchStands : List ℕ → ℕ → Bool
@@ -62,7 +51,7 @@ afterStretch s i = next Digits s (digitsAt s (next Digits s i))
 -- a curve so far, with a slope and a breakpoint more; what is past the room of a curve is only counted
 unfoldable pub withStretch : Curve → ℕ → ℤ → Curve
 withStretch c slope breakpoint = record {
-  count = byte (suc (c .count));
+  count = suc (c .count);
   slopes = set (c .slopes) (c .count) slope;
   breakpoints = set (c .breakpoints) (c .count) breakpoint;
 }
@@ -73,5 +62,5 @@ withSlope c slope = record { count = c .count; slopes = set (c .slopes) (c .coun
 
 -- from i to the end stand the rest of a curve's numbers, which make of the curve so far a whole one
 pub data Stretches (s : List ℕ) : ℕ → Curve → Curve → Type 0 where
-  last : {i : ℕ} {c : Curve} → ends s i ≡ true → Stretches s i c (withSlope c (slopeAt s i))
-  more : {i : ℕ} {c whole : Curve} → stretchStands s i ≡ true → Stretches s (afterStretch s i) (withStretch c (slopeAt s i) (breakpointAt s (next Digits s i))) whole → Stretches s i c whole
+  last : {i : ℕ} {c : Curve} → ends s i ≡ true → Stretches s i c (withSlope c (worthAt s i))
+  more : {i : ℕ} {c whole : Curve} → stretchStands s i ≡ true → Stretches s (afterStretch s i) (withStretch c (worthAt s i) (breakpointAt s (next Digits s i))) whole → Stretches s i c whole

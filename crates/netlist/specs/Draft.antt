@@ -1,4 +1,5 @@
--- A circuit's parts as far as the lines have told them. Assumes nothing.
+-- A circuit's parts as far as the lines have told them, in numbers of any size: a line that says a number which no field of the image holds is told as any
+-- other is, and the rules refuse the parts. Assumes nothing.
 use mathlib.Core.Bool.{Bool, true, false, _&&_}
 use Prim.Native.Nat.{ℕ, suc, max}
 use lib.ListN.{set}
@@ -6,7 +7,6 @@ use Rattle.image.specs.Parts.{version1, noParts}
 use Rattle.image.specs.declared.parts.Curve.{Curve}
 use Rattle.image.specs.declared.parts.Element.{Element}
 use Rattle.image.specs.declared.parts.Parts.{Parts}
-use Rattle.netlist.specs.Curve.{byte}
 use Rattle.netlist.specs.declared.draft.Draft.{Draft}
 use Rattle.netlist.specs.declared.draft.Fault.{Fault}
 use Rattle.netlist.specs.declared.draft.Fault.the-variants.{Nothing, Grammar, Value}
@@ -15,7 +15,6 @@ use Rattle.netlist.specs.declared.said.Line.the-variants.{Broken, Empty,
 use Rattle.netlist.specs.declared.said.Line.the-variants as line
 use Rattle.netlist.specs.declared.said.Field.{Field}
 use Rattle.netlist.specs.declared.said.Field.the-variants.{Drives, Output, Rate}
-use Rattle.netlist.specs.declared.said.Said.{Said}
 
 -- ---- parts, with one thing more; what is past the room of the parts is only counted
 
@@ -27,7 +26,7 @@ withElement parts e = record {
   driven = parts .driven;
   output = parts .output;
   rate = parts .rate;
-  «element_count» = byte (suc (parts .«element_count»));
+  «element_count» = suc (parts .«element_count»);
   elements = set (parts .elements) (parts .«element_count») e;
   «curve_count» = parts .«curve_count»;
   curves = parts .curves;
@@ -42,7 +41,7 @@ withCurve parts c = record {
   rate = parts .rate;
   «element_count» = parts .«element_count»;
   elements = parts .elements;
-  «curve_count» = byte (suc (parts .«curve_count»));
+  «curve_count» = suc (parts .«curve_count»);
   curves = set (parts .curves) (parts .«curve_count») c;
 }
 
@@ -62,8 +61,8 @@ resettled parts nodes driven output rate = record {
 
 -- the output is a node named too; drives are counted, and name none
 unfoldable pub withSetting : Parts → Field → ℕ → Parts
-withSetting parts Drives n = resettled parts (parts .nodes) (byte n) (parts .output) (parts .rate)
-withSetting parts Output n = resettled parts (max (parts .nodes) (byte n)) (parts .driven) (byte n) (parts .rate)
+withSetting parts Drives n = resettled parts (parts .nodes) n (parts .output) (parts .rate)
+withSetting parts Output n = resettled parts (max (parts .nodes) n) (parts .driven) n (parts .rate)
 withSetting parts Rate n = resettled parts (parts .nodes) (parts .driven) (parts .output) n
 
 -- ---- drafts: parts, and which settings have been said

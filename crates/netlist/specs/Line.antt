@@ -2,7 +2,7 @@
 --   R1 1 2 1000      an element: a name that begins with R, C, L or D, two nodes, and a value: ohms, picofarads, microhenries, a curve's number
 --   drives 1         a setting: drives, output or rate, and a number
 --   curve 0 600000 10000000
--- s is what the line says; i is a place in it. Assumes nothing.
+-- s is what the line says; i is a place in it. Numbers are of any size. Assumes nothing.
 use mathlib.Core.Path.{_≡_}
 use mathlib.Core.Bool.{Bool, true, false, _&&_, cond}
 use mathlib.Core.List.{List, [], _∷_}
@@ -19,7 +19,7 @@ use Rattle.ohms.specs.Grammar.{Sum, mostOpen}
 use Rattle.ohms.specs.Worth.{stage}
 use Rattle.ohms.specs.declared.stages.Worth.{Worth}
 use Rattle.ohms.specs.declared.stages.Worth.the-variants.{Within, Outside}
-use Rattle.netlist.specs.Curve.{next, stands, ends, byte, word, Stretches}
+use Rattle.netlist.specs.Curve.{next, stands, ends, Stretches}
 use Rattle.netlist.specs.declared.said.Line.{Line}
 use Rattle.netlist.specs.declared.said.Line.the-variants as line
 use Rattle.netlist.specs.declared.line.Opener.{Opener}
@@ -30,15 +30,19 @@ use Rattle.netlist.specs.declared.said.Said.{Said}
 
 -- ---- what a line begins with
 
+-- `drives`
 abbrev pub drivesWord : List ℕ
 drivesWord = 100 ∷ 114 ∷ 105 ∷ 118 ∷ 101 ∷ 115 ∷ []
 
+-- `output`
 abbrev pub outputWord : List ℕ
 outputWord = 111 ∷ 117 ∷ 116 ∷ 112 ∷ 117 ∷ 116 ∷ []
 
+-- `rate`
 abbrev pub rateWord : List ℕ
 rateWord = 114 ∷ 97 ∷ 116 ∷ 101 ∷ []
 
+-- `curve`
 abbrev pub curveWord : List ℕ
 curveWord = 99 ∷ 117 ∷ 114 ∷ 118 ∷ 101 ∷ []
 
@@ -82,14 +86,14 @@ headed s = stands Name s (start s) && stands Digits s (afterName s) && stands Di
 
 -- the element, if no stage of its value was outside the limits
 abbrev pub elementLine : (kind curve : ℕ) → List ℕ → Worth → Line
-elementLine kind curve s (Within v) = line.Part (record { kind = kind; p = byte (worthAt s (afterName s)); q = byte (worthAt s (secondNode s)); curve = curve; value = v })
+elementLine kind curve s (Within v) = line.Part (record { kind = kind; p = worthAt s (afterName s); q = worthAt s (secondNode s); curve = curve; value = v })
 elementLine kind curve s Outside = line.Outside
 
 -- with a plain number for its value: a diode's is the number of its curve, which has no limits here
 abbrev pub plainLine : ℕ → List ℕ → Line
 plainLine kind s =
     let n = worthAt s (valuePlace s) in
-    cond (eqb kind diodeKind) (elementLine kind (byte n) s (Within 0)) (elementLine kind 0 s (stage n))
+    cond (eqb kind diodeKind) (elementLine kind n s (Within 0)) (elementLine kind 0 s (stage n))
 
 -- ---- what a line says
 
@@ -97,20 +101,23 @@ plainLine kind s =
 abbrev pub just : Line → Said
 just l = record { line = l; curve = noCurve }
 
+-- a resistor, whose value is all that remains of the line
 pub record ResistorLine (s : List ℕ) (x : Said) : Type 0 where
   pub heads : headed s ≡ true
   pub worth : Worth
   pub value : Sum s mostOpen (valuePlace s) (length s) worth
   pub says : x ≡ just (elementLine resistorKind 0 s worth)
 
+-- another element, whose value is a number
 pub record PlainLine (kind : ℕ) (s : List ℕ) (x : Said) : Type 0 where
   pub heads : headed s ≡ true
   pub value : ends s (valuePlace s) ≡ true
   pub says : x ≡ just (plainLine kind s)
 
+-- a setting and its number
 pub record SettingLine (field : Field) (s : List ℕ) (x : Said) : Type 0 where
   pub value : ends s (afterName s) ≡ true
-  pub says : x ≡ just (line.Setting field (word (worthAt s (afterName s))))
+  pub says : x ≡ just (line.Setting field (worthAt s (afterName s)))
 
 -- a curve, whose numbers stand from i on
 pub record CurveLine (s : List ℕ) (i : ℕ) (x : Said) : Type 0 where
@@ -118,7 +125,7 @@ pub record CurveLine (s : List ℕ) (i : ℕ) (x : Said) : Type 0 where
   pub numbers : Stretches s i noCurve curve
   pub says : x ≡ record { line = line.Curve; curve = curve }
 
--- by what it begins with
+-- x is what the line says, by what it begins with
 abbrev pub SaysBy : Opener → List ℕ → Said → Type 0
 SaysBy Empty s x = x ≡ just line.Empty
 SaysBy Resistor s x = ResistorLine s x
@@ -129,17 +136,3 @@ SaysBy Other s x = ⊥
 
 abbrev pub Says : List ℕ → Said → Type 0
 Says s = SaysBy (openerOf s) s
-
--- ---- what the readers answer; no outcome rests on this
-
--- an answer is right: it is what is said, and Broken only if nothing can be
-abbrev pub RightBy : (Said → Type 0) → Line → Said → Type 0
-RightBy Meant line.Broken x = (y : Said) → Meant y → ⊥
-RightBy Meant line.Empty x = Meant x
-RightBy Meant line.Outside x = Meant x
-RightBy Meant (line.Part e) x = Meant x
-RightBy Meant (line.Setting field n) x = Meant x
-RightBy Meant line.Curve x = Meant x
-
-abbrev pub Right : (Said → Type 0) → Said → Type 0
-Right Meant x = RightBy Meant (x .line) x

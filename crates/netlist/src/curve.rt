@@ -8,8 +8,9 @@ use console::words::Run;
 use image::Curve;
 ghost use mathlib.Core.Path.{_≡_};
 ghost use lib.ListN.{set};
-ghost use Rattle.netlist.specs.Curve.{slopeAt, minusAt, digitsAt, breakpointAt, stretchStands, afterStretch, withStretch, withSlope};
-ghost use Rattle.netlist.specs.Line.{CurveLine, Right};
+ghost use Rattle.netlist.specs.Curve.{minusAt, digitsAt, breakpointAt, stretchStands, afterStretch, withStretch, withSlope};
+ghost use Rattle.netlist.specs.Kept.{keptBreakpoint, keptCount, Right};
+ghost use Rattle.netlist.specs.Line.{CurveLine};
 
 const MINUS: u8 = 45;
 
@@ -33,7 +34,7 @@ fn digits_at(s: &[u8], at: usize) -> usize
 }
 
 fn breakpoint_at(s: &[u8], at: usize) -> i32
-    ensures { λ r. ⌜ r ≡ breakpointAt (now (s .entry)) at ⌝ }
+    ensures { λ r. ⌜ r ≡ keptBreakpoint (breakpointAt (now (s .entry)) at) ⌝ }
 {
     number::value(minus_at(s, at), field::size(s, digits_at(s, at))) as i32
 }
@@ -74,7 +75,7 @@ fn with_breakpoint_at(breakpoints: [i32; 16], j: usize, breakpoint: i32) -> [i32
 }
 
 fn with_stretch(c: Curve, slope: u32, breakpoint: i32) -> Curve
-    ensures { λ r. ⌜ r ≡ withStretch c slope breakpoint ⌝ }
+    ensures { λ r. ⌜ r ≡ keptCount (withStretch c slope breakpoint) ⌝ }
 {
     let slopes = c.slopes;
     let breakpoints = c.breakpoints;

@@ -10,6 +10,7 @@ ghost use mathlib.Core.Path.{_≡_};
 ghost use Prim.Native.Nat.{max};
 ghost use lib.ListN.{set};
 ghost use Rattle.netlist.specs.Draft.{withElement, withCurve, withSetting, blankDraft, said, complete, faultOf, reparted, noted, withLine};
+ghost use Rattle.netlist.specs.Kept.{keptHeader, headerKept};
 
 pub struct Draft {
     pub parts: Parts,
@@ -72,7 +73,7 @@ fn with_curve_at(curves: [Curve; 8], k: usize, c: Curve) -> [Curve; 8]
 }
 
 fn with_element(parts: Parts, e: Element) -> Parts
-    ensures { λ r. ⌜ r ≡ withElement parts e ⌝ }
+    ensures { λ r. ⌜ r ≡ keptHeader (withElement parts e) ⌝ }
 {
     let elements = parts.elements;
     let more_elements = with_element_at(elements, parts.element_count as usize, e);
@@ -84,7 +85,7 @@ fn with_element(parts: Parts, e: Element) -> Parts
 }
 
 fn with_curve(parts: Parts, c: Curve) -> Parts
-    ensures { λ r. ⌜ r ≡ withCurve parts c ⌝ }
+    ensures { λ r. ⌜ r ≡ keptHeader (withCurve parts c) ⌝ }
 {
     let curves = parts.curves;
     let more_curves = with_curve_at(curves, parts.curve_count as usize, c);
@@ -95,7 +96,7 @@ fn with_curve(parts: Parts, c: Curve) -> Parts
 }
 
 fn with_setting(parts: Parts, field: Field, n: u32) -> Parts
-    ensures { λ r. ⌜ r ≡ withSetting parts field n ⌝ }
+    ensures { λ r. ⌜ r ≡ keptHeader (withSetting parts field n) ⌝ }
 {
     let mut more = parts;
     match field {
@@ -178,7 +179,7 @@ fn noted(draft: Draft, field: Field) -> Draft
 
 // The draft with a line more.
 pub fn with_line(draft: Draft, line: Line, curve: Curve) -> Draft
-    ensures { λ r. ⌜ r ≡ withLine draft line curve ⌝ }
+    ensures { λ r. ⌜ r ≡ headerKept (withLine draft line curve) ⌝ }
 {
     let parts = draft.parts;
     match line {

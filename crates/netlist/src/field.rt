@@ -5,12 +5,15 @@ use console::words::Run;
 ghost use mathlib.Core.Path.{_≡_};
 ghost use Prim.Native.Nat.{suc, min};
 ghost use Rattle.console.specs.Number.{worthAt};
-ghost use Rattle.netlist.specs.Curve.{next, stands, ends, byte, word};
+ghost use Rattle.netlist.specs.Curve.{next, stands, ends};
+ghost use Rattle.netlist.specs.Kept.{byte, word, size};
 
 // The greatest numbers that fields of the image hold.
 const MOST_BYTE: u64 = 255;
 
 const MOST_WORD: u64 = 4294967295;
+
+const MOST_SIZE: u64 = 2147483647;
 
 // Where the next word begins, after one of a run.
 pub fn next(run: Run, s: &[u8], at: usize) -> usize
@@ -60,9 +63,9 @@ pub fn word(s: &[u8], at: usize) -> u32
 
 // The size of a breakpoint: a field of four with a sign.
 pub fn size(s: &[u8], at: usize) -> u64
-    ensures { λ r. ⌜ r ≡ min (worthAt (now (s .entry)) at) 2147483647 ⌝ }
+    ensures { λ r. ⌜ r ≡ size (worthAt (now (s .entry)) at) ⌝ }
 {
-    least(number::worth_at(s, at), 2147483647)
+    least(number::worth_at(s, at), MOST_SIZE)
 }
 
 // A number that was held to four bytes, held to one.

@@ -15,7 +15,8 @@ use ohms::Worth;
 ghost use mathlib.Core.Path.{_≡_};
 ghost use Rattle.console.specs.Words.{first};
 ghost use Rattle.console.specs.declared.words.Run.the-variants as run;
-ghost use Rattle.netlist.specs.Line.{same, start, byLetter, byWord, openerOf, afterName, secondNode, valuePlace, headed, elementLine, plainLine, SaysBy, Says, Right};
+ghost use Rattle.netlist.specs.Kept.{keptLine, Right};
+ghost use Rattle.netlist.specs.Line.{same, byLetter, byWord, openerOf, afterName, secondNode, valuePlace, headed, elementLine, plainLine, SaysBy, Says};
 ghost use Rattle.netlist.specs.declared.line.Opener.the-variants.{Resistor, Plain, Setting};
 
 // A resistor, another element by its kind, a setting, a curve, or none of these.
@@ -105,7 +106,7 @@ fn headed(s: &[u8]) -> bool
 }
 
 fn element_line(kind: u8, curve: u8, s: &[u8], worth: Worth) -> Line
-    ensures { λ r. ⌜ r ≡ elementLine kind curve (now (s .entry)) worth ⌝ }
+    ensures { λ r. ⌜ r ≡ keptLine (elementLine kind curve (now (s .entry)) worth) ⌝ }
 {
     match worth {
         Worth::Within(value) => {
@@ -124,7 +125,7 @@ fn element_line(kind: u8, curve: u8, s: &[u8], worth: Worth) -> Line
 }
 
 fn plain_line(kind: u8, s: &[u8]) -> Line
-    ensures { λ r. ⌜ r ≡ plainLine kind (now (s .entry)) ⌝ }
+    ensures { λ r. ⌜ r ≡ keptLine (plainLine kind (now (s .entry))) ⌝ }
 {
     let at = value_place(s);
     if kind as u64 == kind::DIODE {

@@ -10,7 +10,7 @@ use image::Parts;
 use units::number;
 use units::number::Number;
 ghost use mathlib.Core.Path.{_≡_};
-ghost use Rattle.netlist.specs.Answer.{numberOf, lineOf, refused, byRules, judgedAnswer, atEnd, Answers};
+ghost use Rattle.netlist.specs.Answer.{numberOf, lineOf, refused, byRules, atEnd, Answers};
 
 // How the reading ended: the parts were judged by the rules, which may have let them pass; a line is
 // outside the grammar; a line's value is outside its limits. Lines count from 1.

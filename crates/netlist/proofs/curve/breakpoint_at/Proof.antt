@@ -1,5 +1,5 @@
 use mathlib.Core.Path.{_≡_, refl, _∙_}
-use Prim.Native.Nat.{ℕ, _≤_}
+use Prim.Native.Nat.{ℕ}
 use native.Mathlib.Omega.{arith}
 use lib.IntN.{natAbs, pos}
 use mir.Facts.{toZ-ofZ}
@@ -9,6 +9,7 @@ use mathlib.Core.Bool.{Bool, true, false}
 use Rattle.units.specs.Float.{signed}
 use Rattle.units.proofs.Machine.{fits-half}
 use Rattle.units.proofs.Sizes.{abs-neg}
+use Rattle.netlist.proofs.KeptCurves.{kept-signed}
 use borrow.Author.Needs.{needs}
 use Rattle.netlist.proofs.curve.breakpoint_at.Statement.{statement}
 use Rattle.netlist.proofs.curve.breakpoint_at.Tie as tie
@@ -41,7 +42,7 @@ cast-result c = narrow c
 returns : tie.Need-returns
 returns c =
     let e : toZ w64 (ofZ w64 (c .value .result)) ≡ c .value .result = search needs in
-    toZ-ofZ (narrow c) ∙ e ∙ c .value .ensures ∙ rw (c .before .size .ensures, c .before .before .digits-at .ensures, c .before .before .before .minus-at .ensures)
+    toZ-ofZ (narrow c) ∙ e ∙ c .value .ensures ∙ rw (c .before .size .ensures, c .before .before .digits-at .ensures, c .before .before .before .minus-at .ensures, kept-signed)
 
 pub breakpoint-at-spec : {M : Type 1} → statement M
 breakpoint-at-spec =

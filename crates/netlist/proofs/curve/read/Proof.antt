@@ -1,4 +1,4 @@
-use mathlib.Core.Path.{_≡_, refl, sym, _∙_}
+use mathlib.Core.Path.{_≡_, sym, _∙_}
 use mathlib.Core.Bool.{true}
 use Prim.Native.Nat.{_-_}
 use native.Mathlib.Omega.{arith}
@@ -6,14 +6,15 @@ use lib.ListN.{length}
 use mir.Syntax.{w32}
 use mir.Val.{toZ, ofZ}
 use borrow.Author.Tests.{not-true, not-false}
-use Rattle.netlist.specs.Curve.{slopeAt, stretchStands, withSlope}
-use Rattle.netlist.proofs.PlaceLaws.{stretched, Drawing, drawing-more, drawing-last, drawing-broken}
+use Rattle.netlist.specs.Curve.{stretchStands}
+use Rattle.netlist.proofs.PlaceLaws.{stretched, drawing-broken}
+use Rattle.netlist.proofs.KeptCurves.{Drawn, drawn-first, drawn-more, drawn-last}
 use borrow.Author.Needs.{needs}
 use Rattle.netlist.proofs.curve.read.Statement.{statement}
 use Rattle.netlist.proofs.curve.read.Tie as tie
 
 abbrev Inv-loop : tie.InvT-loop
-Inv-loop s from curve₀ at₀ curve at = Drawing s from at curve
+Inv-loop s from curve₀ at₀ curve at = Drawn s from at curve
 
 abbrev μ-loop : tie.MeasureT-loop
 μ-loop s from curve₀ at₀ curve at = length s - at
@@ -26,7 +27,7 @@ no-curve-requires : tie.Need-no-curve-requires Inv-loop μ-loop
 no-curve-requires c κs = search needs
 
 loop-holds : tie.Need-loop-holds Inv-loop μ-loop
-loop-holds c = rw (c .no-curve .ensures) (record { onward = λ r. r; back = λ r. r })
+loop-holds c = rw (c .no-curve .ensures) (drawn-first _ _)
 
 stretch-stands-requires : tie.Need-stretch-stands-requires Inv-loop μ-loop
 stretch-stands-requires c κs = search needs
@@ -55,7 +56,7 @@ loop-again : tie.Need-loop-again Inv-loop μ-loop
 loop-again c =
     let e : toZ w32 (ofZ w32 (c .before .before .breakpoint-at .result)) ≡ c .before .before .breakpoint-at .result = search needs in
     rw (c .after-stretch .ensures, c .before .with-stretch .ensures, e, c .before .before .breakpoint-at .ensures, c .before .before .before .next .ensures, c .before .before .before .before .word .ensures)
-    (drawing-more _ _ _ _ (c .before .before .before .before .before .before .before .loop .inv) (goes-on (c .before .before .before .before .before)))
+    (drawn-more _ _ _ _ (c .before .before .before .before .before .before .before .loop .inv) (goes-on (c .before .before .before .before .before)))
 
 ends-requires : tie.Need-ends-requires Inv-loop μ-loop
 ends-requires c κs = search needs
@@ -68,7 +69,7 @@ returns c =
     let l = c .before .before .before .before .before .loop in
     let s = c .before .before .before .before .before .before .before .before .args .s .now in
     rw (c .just .ensures)
-    (λ y says. drawing-broken s (c .before .before .before .before .before .before .before .before .args .from) (l .at) (l .curve) (l .inv) (sym (c .before .before .before .before .stretch-stands .ensures) ∙ c .before .before .before .if1 .left) (sym (c .before .before .ends .ensures) ∙ not-true _ (c .before .if2 .taken)) (says .numbers))
+    (λ y says. drawing-broken s (c .before .before .before .before .before .before .before .before .args .from) (l .at) (l .inv .whole) (l .inv .drawing) (sym (c .before .before .before .before .stretch-stands .ensures) ∙ c .before .before .before .if1 .left) (sym (c .before .before .ends .ensures) ∙ not-true _ (c .before .if2 .taken)) (says .numbers))
 
 word-requires-2 : tie.Need-word-requires-2 Inv-loop μ-loop
 word-requires-2 c κs = search needs
@@ -80,7 +81,7 @@ returns-2 : tie.Need-returns-2 Inv-loop μ-loop
 returns-2 c =
     let l = c .before .before .before .before .before .before .loop in
     rw (c .with-slope .ensures, c .before .word2 .ensures)
-    (record { curve = withSlope (l .curve) (slopeAt (c .before .before .before .before .before .before .before .before .before .args .s .now) (l .at)); numbers = drawing-last _ _ _ _ (l .inv) (sym (c .before .before .before .ends .ensures) ∙ not-false _ (c .before .before .if2 .left)); says = refl })
+    (drawn-last _ _ _ _ (l .inv) (sym (c .before .before .before .ends .ensures) ∙ not-false _ (c .before .before .if2 .left)))
 
 pub read-spec : {M : Type 1} → statement M
 read-spec =

@@ -2,6 +2,7 @@ use mathlib.Core.Path.{_≡_}
 use mir.Syntax.{w32}
 use mir.Val.{toZ, ofZ}
 use Rattle.netlist.specs.Curve.{withStretch}
+use Rattle.netlist.specs.Kept.{keptCount}
 use borrow.Author.Needs.{needs}
 use Rattle.netlist.proofs.curve.with_stretch.Statement.{statement}
 use Rattle.netlist.proofs.curve.with_stretch.Tie as tie
@@ -19,7 +20,7 @@ counted-requires : tie.Need-counted-requires
 counted-requires c κs = search needs
 
 returns : tie.Need-returns
-unfolding withStretch
+unfolding withStretch keptCount
 returns c =
     let a = c .before .before .before .before .before .before .args in
     let b : toZ w32 (ofZ w32 (a .breakpoint)) ≡ a .breakpoint = search needs in

@@ -1,4 +1,6 @@
 use Rattle.netlist.specs.Draft.{withCurve}
+use Rattle.netlist.specs.Kept.{mostByte, mostWord, keptHeader}
+use Rattle.netlist.proofs.KeptCurves.{fits}
 use borrow.Author.Needs.{needs}
 use Rattle.netlist.proofs.draft.with_curve.Statement.{statement}
 use Rattle.netlist.proofs.draft.with_curve.Tie as tie
@@ -13,8 +15,10 @@ counted-requires : tie.Need-counted-requires
 counted-requires c κs = search needs
 
 returns : tie.Need-returns
-unfolding withCurve
-returns c = rw (c .counted .ensures, c .before .with-curve-at .ensures)
+unfolding withCurve keptHeader
+returns c =
+    let a = c .before .before .before .before .args .parts in
+    rw (c .counted .ensures, c .before .with-curve-at .ensures, fits (a .nodes) mostByte (search needs), fits (a .driven) mostByte (search needs), fits (a .output) mostByte (search needs), fits (a .rate) mostWord (search needs), fits (a .«element_count») mostByte (search needs))
 
 pub with-curve-spec : {M : Type 1} → statement M
 with-curve-spec =

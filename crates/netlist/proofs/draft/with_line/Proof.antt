@@ -1,4 +1,5 @@
-use Rattle.netlist.specs.Draft.{withLine}
+use Rattle.netlist.specs.Draft.{withSetting, reparted, withLine}
+use Rattle.netlist.proofs.KeptDrafts.{small-kept, noted-kept}
 use borrow.Author.Needs.{needs}
 use Rattle.netlist.proofs.draft.with_line.Statement.{statement}
 use Rattle.netlist.proofs.draft.with_line.Tie as tie
@@ -44,15 +45,15 @@ reparted-requires-3 c κs = search needs
 
 returns : tie.Need-returns
 unfolding withLine
-returns c = search needs
+returns c = rw (c .enum-told .given .1, small-kept (c .before .before .before .args .draft .parts) (search needs))
 
 returns-2 : tie.Need-returns-2
 unfolding withLine
-returns-2 c = search needs
+returns-2 c = rw (c .enum-told2 .given .1, small-kept (c .before .before .before .args .draft .parts) (search needs))
 
 returns-3 : tie.Need-returns-3
 unfolding withLine
-returns-3 c = search needs
+returns-3 c = rw (c .enum-told3 .given .1, small-kept (c .before .before .before .args .draft .parts) (search needs))
 
 returns-4 : tie.Need-returns-4
 unfolding withLine
@@ -60,7 +61,7 @@ returns-4 c = rw (c .before .before .before .line .given .1, c .reparted .ensure
 
 returns-5 : tie.Need-returns-5
 unfolding withLine
-returns-5 c = rw (c .before .before .before .before .line2 .given .1, c .noted .ensures, c .before .reparted2 .ensures, c .before .before .with-setting .ensures)
+returns-5 c = rw (c .before .before .before .before .line2 .given .1, c .noted .ensures, c .before .reparted2 .ensures, c .before .before .with-setting .ensures) (noted-kept (reparted (c .before .before .before .before .before .before .before .args .draft) (withSetting (c .before .before .before .before .before .before .before .args .draft .parts) (c .before .before .before .before .line2 .given .0 .0) (c .before .before .before .before .line2 .given .0 .1 .0))) (c .before .before .before .before .line2 .given .0 .0))
 
 returns-6 : tie.Need-returns-6
 unfolding withLine

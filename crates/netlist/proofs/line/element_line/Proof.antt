@@ -1,3 +1,5 @@
+use Rattle.netlist.specs.Kept.{mostByte}
+use Rattle.netlist.proofs.KeptCurves.{fits}
 use borrow.Author.Needs.{needs}
 use Rattle.netlist.proofs.line.element_line.Statement.{statement}
 use Rattle.netlist.proofs.line.element_line.Tie as tie
@@ -21,7 +23,7 @@ enum-told : tie.Need-enum-told
 enum-told c = search needs
 
 returns : tie.Need-returns
-returns c = rw (c .before .before .before .before .before .worth .given .1, c .byte2 .ensures, c .before .second-node .ensures, c .before .before .byte .ensures, c .before .before .before .after-name .ensures)
+returns c = rw (c .before .before .before .before .before .worth .given .1, c .byte2 .ensures, c .before .second-node .ensures, c .before .before .byte .ensures, c .before .before .before .after-name .ensures, fits (c .before .before .before .before .before .before .before .before .args .curve) mostByte (search needs))
 
 returns-2 : tie.Need-returns-2
 returns-2 c = search needs

@@ -1,6 +1,7 @@
 use mathlib.Core.Path.{refl, sym, _∙_}
 use mathlib.Core.Bool.{false≢true}
 use borrow.Author.Tests.{not-true, not-false}
+use Rattle.netlist.specs.Kept.{keptCurve}
 use Rattle.netlist.specs.Line.{plainLine, just}
 use Rattle.netlist.proofs.LineLaws.{right-said, plain-whole}
 use borrow.Author.Needs.{needs}
@@ -37,6 +38,7 @@ just-requires-3 : tie.Need-just-requires-3
 just-requires-3 c κs = search needs
 
 returns-3 : tie.Need-returns-3
+unfolding keptCurve
 returns-3 c =
     let a = c .before .before .before .before .before .before .before .before .args in
     let e = c .before .before .before in

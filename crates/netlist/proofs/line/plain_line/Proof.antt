@@ -1,5 +1,6 @@
 use borrow.Author.Tests.{eq-eqb, ne-eqb}
 use Rattle.ohms.proofs.FoundLaws.{stage-far}
+use Rattle.netlist.proofs.KeptCurves.{twice}
 use borrow.Author.Needs.{needs}
 use Rattle.netlist.proofs.line.plain_line.Statement.{statement}
 use Rattle.netlist.proofs.line.plain_line.Tie as tie
@@ -14,7 +15,7 @@ element-line-requires : tie.Need-element-line-requires
 element-line-requires c κs = search needs
 
 returns : tie.Need-returns
-returns c = rw (eq-eqb _ _ (c .before .before .if1 .taken), c .element-line .ensures, c .before .byte .ensures, c .before .before .before .value-place .ensures)
+returns c = rw (eq-eqb _ _ (c .before .before .if1 .taken), c .element-line .ensures, c .before .byte .ensures, c .before .before .before .value-place .ensures, twice)
 
 worth-at-requires : tie.Need-worth-at-requires
 worth-at-requires c κs = search needs

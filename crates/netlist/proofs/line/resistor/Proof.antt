@@ -4,6 +4,7 @@ use lib.ListN.{length}
 use borrow.Author.Tests.{not-true, not-false}
 use Rattle.network.specs.Kind.{resistorKind}
 use Rattle.ohms.proofs.Promise.{value-once}
+use Rattle.netlist.specs.Kept.{keptCurve}
 use Rattle.netlist.specs.Line.{valuePlace, elementLine, just, ResistorLine}
 use Rattle.netlist.proofs.LineLaws.{right-said, element-whole}
 use borrow.Author.Needs.{needs}
@@ -59,6 +60,7 @@ returns-3 c =
     rw (c .just2 .ensures) (λ y says. v (length s) (says .worth) (says .value))
 
 returns-4 : tie.Need-returns-4
+unfolding keptCurve
 returns-4 c =
     let s = c .before .before .before .before .before .before .before .before .before .before .before .args .s .now in
     let v = rw (c .before .before .before .before .end .given .1, c .before .before .before .before .before .before .before .value-place .ensures) at (c .before .before .before .before .before .before .value .ensures) in

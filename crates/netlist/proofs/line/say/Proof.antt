@@ -1,4 +1,7 @@
-use mathlib.Core.Path.{sym, _∙_}
+use mathlib.Core.Path.{refl, sym, _∙_}
+use Rattle.netlist.specs.Kept.{keptCurve}
+use Rattle.netlist.specs.Line.{just}
+use Rattle.netlist.specs.declared.said.Line.the-variants as line
 use borrow.Author.Needs.{needs}
 use Rattle.netlist.proofs.line.say.Statement.{statement}
 use Rattle.netlist.proofs.line.say.Tie as tie
@@ -46,7 +49,8 @@ just-requires-2 : tie.Need-just-requires-2
 just-requires-2 c κs = search needs
 
 returns : tie.Need-returns
-returns c = rw (sym (c .before .before .before .opened .ensures) ∙ c .before .enum-told .given .1, c .just .ensures)
+unfolding keptCurve
+returns c = rw (sym (c .before .before .before .opened .ensures) ∙ c .before .enum-told .given .1, c .just .ensures) (record { whole = just line.Empty; meant = refl; kept = refl })
 
 returns-2 : tie.Need-returns-2
 returns-2 c = rw (sym (c .before .before .before .opened .ensures) ∙ c .before .enum-told2 .given .1) (c .resistor .ensures)

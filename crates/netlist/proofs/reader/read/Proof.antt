@@ -1,12 +1,12 @@
-use mathlib.Core.Path.{_≡_, refl, sym, _∙_}
+use mathlib.Core.Path.{_≡_, sym, _∙_}
 use Prim.Native.Nat.{_+_, _-_, _≤_}
 use native.Mathlib.Omega.{arith}
-use lib.ListN.{length, drop, length-drop}
+use lib.ListN.{length}
 use Rattle.console.proofs.WordLaws.{from-there}
-use Rattle.netlist.specs.Line.{Right}
+use Rattle.netlist.specs.Kept.{Right}
 use Rattle.netlist.specs.Text.{longestText, SaysLine}
 use Rattle.netlist.specs.Answer.{long, read}
-use Rattle.netlist.proofs.TextLaws.{lineAt, line-within, Reached, reached-first, reached-last, reached-grammar, reached-value, reached-more}
+use Rattle.netlist.proofs.TextLaws.{lineAt, Reached, reached-first, reached-last, reached-grammar, reached-value, reached-more}
 use borrow.Author.Needs.{needs}
 use Rattle.netlist.proofs.reader.read.Statement.{statement}
 use Rattle.netlist.proofs.reader.read.Tie as tie
