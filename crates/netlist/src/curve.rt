@@ -14,6 +14,7 @@ ghost use Rattle.netlist.specs.Line.{CurveLine};
 
 const MINUS: u8 = 45;
 
+// Whether a minus stands at a place.
 fn minus_at(s: &[u8], at: usize) -> bool
     ensures { λ r. ⌜ r ≡ minusAt (now (s .entry)) at ⌝ }
 {
@@ -33,12 +34,14 @@ fn digits_at(s: &[u8], at: usize) -> usize
     at
 }
 
+// The breakpoint at a place, as a field keeps it.
 fn breakpoint_at(s: &[u8], at: usize) -> i32
     ensures { λ r. ⌜ r ≡ keptBreakpoint (breakpointAt (now (s .entry)) at) ⌝ }
 {
     number::value(minus_at(s, at), field::size(s, digits_at(s, at))) as i32
 }
 
+// Whether a slope and a breakpoint stand there.
 fn stretch_stands(s: &[u8], at: usize) -> bool
     ensures { λ r. ⌜ r ≡ stretchStands (now (s .entry)) at ⌝ }
 {
@@ -46,6 +49,7 @@ fn stretch_stands(s: &[u8], at: usize) -> bool
     field::stands(Run::Digits, s, at) & field::stands(Run::Digits, s, digits_at(s, breakpoint))
 }
 
+// Where the slope after them begins.
 fn after_stretch(s: &[u8], at: usize) -> usize
     ensures { λ r. ⌜ r ≡ afterStretch (now (s .entry)) at ⌝ }
 {
@@ -53,7 +57,7 @@ fn after_stretch(s: &[u8], at: usize) -> usize
     field::next(Run::Digits, s, digits_at(s, breakpoint))
 }
 
-// A store, if there is room.
+// A store, if the array has the place: what is past its room is only counted.
 fn with_slope_at(slopes: [u32; 17], j: usize, slope: u32) -> [u32; 17]
     ensures { λ r. ⌜ r ≡ set slopes j slope ⌝ }
 {
@@ -74,6 +78,7 @@ fn with_breakpoint_at(breakpoints: [i32; 16], j: usize, breakpoint: i32) -> [i32
     more
 }
 
+// The curve with a slope and a breakpoint more.
 fn with_stretch(c: Curve, slope: u32, breakpoint: i32) -> Curve
     ensures { λ r. ⌜ r ≡ keptCount (withStretch c slope breakpoint) ⌝ }
 {
@@ -89,6 +94,7 @@ fn with_stretch(c: Curve, slope: u32, breakpoint: i32) -> Curve
     }
 }
 
+// The curve with its last slope.
 fn with_slope(c: Curve, slope: u32) -> Curve
     ensures { λ r. ⌜ r ≡ withSlope c slope ⌝ }
 {

@@ -2,7 +2,6 @@
 use super::field;
 use super::said::Field;
 use super::said::Line;
-use super::said::Said;
 use image::Curve;
 use image::Element;
 use image::Parts;
@@ -12,6 +11,7 @@ ghost use lib.ListN.{set};
 ghost use Rattle.netlist.specs.Draft.{withElement, withCurve, withSetting, blankDraft, said, complete, faultOf, reparted, noted, withLine};
 ghost use Rattle.netlist.specs.Kept.{keptHeader, headerKept};
 
+// The parts, and whether `drives`, `output` and `rate` have been said.
 pub struct Draft {
     pub parts: Parts,
     pub drives: bool,
@@ -29,6 +29,7 @@ pub enum Fault {
 // The version of a netlist's parts.
 const VERSION: u8 = 1;
 
+// Before the first line.
 pub fn blank() -> Draft
     ensures { λ r. ⌜ r ≡ blankDraft ⌝ }
 {
@@ -42,6 +43,7 @@ pub fn blank() -> Draft
     }
 }
 
+// The higher of two nodes.
 fn highest(a: u8, b: u8) -> u8
     ensures { λ r. ⌜ r ≡ max a b ⌝ }
 {
@@ -51,7 +53,7 @@ fn highest(a: u8, b: u8) -> u8
     a
 }
 
-// A store, if there is room.
+// A store, if the array has the place: what is past its room is only counted.
 fn with_element_at(elements: [Element; 32], j: usize, e: Element) -> [Element; 32]
     ensures { λ r. ⌜ r ≡ set elements j e ⌝ }
 {
@@ -72,6 +74,7 @@ fn with_curve_at(curves: [Curve; 8], k: usize, c: Curve) -> [Curve; 8]
     more
 }
 
+// The parts with an element more.
 fn with_element(parts: Parts, e: Element) -> Parts
     ensures { λ r. ⌜ r ≡ keptHeader (withElement parts e) ⌝ }
 {
@@ -84,6 +87,7 @@ fn with_element(parts: Parts, e: Element) -> Parts
     more
 }
 
+// The parts with a curve more.
 fn with_curve(parts: Parts, c: Curve) -> Parts
     ensures { λ r. ⌜ r ≡ keptHeader (withCurve parts c) ⌝ }
 {
@@ -95,6 +99,7 @@ fn with_curve(parts: Parts, c: Curve) -> Parts
     more
 }
 
+// The parts with a setting.
 fn with_setting(parts: Parts, field: Field, n: u32) -> Parts
     ensures { λ r. ⌜ r ≡ keptHeader (withSetting parts field n) ⌝ }
 {
@@ -115,6 +120,7 @@ fn with_setting(parts: Parts, field: Field, n: u32) -> Parts
     more
 }
 
+// Whether a setting has been said.
 fn has_said(draft: Draft, field: Field) -> bool
     ensures { λ r. ⌜ r ≡ said draft field ⌝ }
 {
@@ -151,6 +157,7 @@ pub fn fault_in(draft: Draft, line: Line) -> Fault
     }
 }
 
+// The draft with other parts.
 fn reparted(draft: Draft, parts: Parts) -> Draft
     ensures { λ r. ⌜ r ≡ reparted draft parts ⌝ }
 {
@@ -159,6 +166,7 @@ fn reparted(draft: Draft, parts: Parts) -> Draft
     other
 }
 
+// The draft, a setting having been said.
 fn noted(draft: Draft, field: Field) -> Draft
     ensures { λ r. ⌜ r ≡ noted draft field ⌝ }
 {

@@ -38,6 +38,7 @@ pub fn ends(s: &[u8], at: usize) -> bool
     (at < end) & (words::past(Run::Blanks, s, end) == s.len())
 }
 
+// A number, or the greatest that a field holds.
 fn least(n: u64, most: u64) -> u64
     ensures { λ r. ⌜ r ≡ min n most ⌝ }
 {

@@ -29,12 +29,14 @@ enum Opener {
     Other,
 }
 
+// Whether a word is a name's bytes.
 fn is(word: &[u8], name: &[u8]) -> bool
     ensures { λ r. ⌜ r ≡ same (now (word .entry)) (now (name .entry)) ⌝ }
 {
     check::same(word, name)
 }
 
+// By the letter of a kind.
 fn by_letter(letter: u8) -> Opener
     ensures { λ r. ⌜ r ≡ byLetter letter ⌝ }
 {
@@ -66,6 +68,7 @@ fn by_word(word: &[u8], letter: u8) -> Opener
     by_letter(letter)
 }
 
+// What a line begins with.
 fn opened(s: &[u8]) -> Opener
     ensures { λ r. ⌜ r ≡ openerOf (now (s .entry)) ⌝ }
 {
@@ -77,19 +80,21 @@ fn opened(s: &[u8]) -> Opener
     by_word(words::first(Run::Name, rest), s[at])
 }
 
-// The places after an element's name: its nodes, and its value.
+// The place after an element's name, where its first node is.
 fn after_name(s: &[u8]) -> usize
     ensures { λ r. ⌜ r ≡ afterName (now (s .entry)) ⌝ }
 {
     field::next(Run::Name, s, words::past(Run::Blanks, s, 0))
 }
 
+// Its second node.
 fn second_node(s: &[u8]) -> usize
     ensures { λ r. ⌜ r ≡ secondNode (now (s .entry)) ⌝ }
 {
     field::next(Run::Digits, s, after_name(s))
 }
 
+// Its value.
 fn value_place(s: &[u8]) -> usize
     ensures { λ r. ⌜ r ≡ valuePlace (now (s .entry)) ⌝ }
 {
@@ -105,6 +110,7 @@ fn headed(s: &[u8]) -> bool
         & field::stands(Run::Digits, s, second_node(s))
 }
 
+// An element, if its value is within the limits.
 fn element_line(kind: u8, curve: u8, s: &[u8], worth: Worth) -> Line
     ensures { λ r. ⌜ r ≡ keptLine (elementLine kind curve (now (s .entry)) worth) ⌝ }
 {
@@ -124,6 +130,7 @@ fn element_line(kind: u8, curve: u8, s: &[u8], worth: Worth) -> Line
     }
 }
 
+// An element with a plain number for its value.
 fn plain_line(kind: u8, s: &[u8]) -> Line
     ensures { λ r. ⌜ r ≡ keptLine (plainLine kind (now (s .entry))) ⌝ }
 {
@@ -165,6 +172,7 @@ fn plain(kind: u8, s: &[u8]) -> Said
     said::just(plain_line(kind, s))
 }
 
+// A setting and its number.
 fn setting(field: Field, s: &[u8]) -> Said
     ensures { λ r. ⌜ Right (SaysBy (Setting field) (now (s .entry))) r ⌝ }
 {

@@ -3,7 +3,6 @@ use super::draft;
 use super::draft::Draft;
 use super::draft::Fault;
 use super::line;
-use super::said::Said;
 use console::words;
 use console::words::Run;
 use image::Parts;
@@ -55,6 +54,7 @@ pub fn line_of(verdict: Verdict) -> usize
     }
 }
 
+// A verdict that is a refusal, with zeros beside it.
 fn refused(verdict: Verdict) -> Answer
     ensures { λ r. ⌜ r ≡ refused verdict ⌝ }
 {

@@ -7,10 +7,7 @@ mod refusal;
 use image::Parts;
 use libc::STDOUT_FILENO;
 use netlist::Verdict;
-use units::number::Number;
 ghost use mathlib.Core.Path.{_≡_};
-ghost use Prim.Native.Nat.{_≤_};
-ghost use lib.ListN.{length};
 ghost use Rattle.units.specs.declared.number.Number.the-variants.{Done};
 ghost use Rattle.image.specs.Judged.{judged};
 ghost use Rattle.image.specs.Sound.{Sound};
@@ -43,6 +40,7 @@ fn write_parts(parts: Parts)
     io::write_all(STDOUT_FILENO, &text[..bounded]);
 }
 
+// Why there are none.
 fn write_refusal(verdict: Verdict) {
     let mut text = io::buffer();
     let end = refusal::put(&mut text, verdict);
