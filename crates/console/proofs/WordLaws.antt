@@ -49,6 +49,12 @@ module _ (kind : ℕ → Bool) where
       go true e rest (suc j) h = rest j (omega arith)
       go false e rest j h = absurd (omega arith)
 
+-- a byte of a text that is not 0 stands before its end
+pub byte-there : (text : List ℕ) (i b : ℕ) → getD text i 0 ≡ suc b → i < length text
+byte-there [] i b e = absurd (omega (arith, e))
+byte-there (x ∷ text) zero b e = omega arith
+byte-there (x ∷ text) (suc i) b e = omega (arith, byte-there text i b e)
+
 -- a text from a place on, as the code takes it
 pub from-there : (i : ℕ) (text : List ℕ) → take (length text - i) (drop i text) ≡ drop i text
 from-there i text = take-all (length text - i) (drop i text) (omega (arith, length-drop i text))

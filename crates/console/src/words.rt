@@ -1,5 +1,6 @@
 // Text taken apart: what stands at its start and is of one kind, and what follows on that.
 ghost use mathlib.Core.Path.{_≡_};
+ghost use lib.ListN.{getD};
 ghost use Rattle.console.specs.Words.{isBlank, isDigit, isNaming, belongs, leading, first, rest, past};
 
 // Blanks between words; a word; a line up to its end; what a line says up to its comment; the digits
@@ -75,6 +76,16 @@ pub fn rest<'a>(run: Run, text: &'a [u8]) -> &'a [u8]
 {
     let n = leading(run, text);
     &text[n..]
+}
+
+// The byte at a place, 0 past the end.
+pub fn byte_at(text: &[u8], at: usize) -> u8
+    ensures { λ r. ⌜ r ≡ getD (now (text .entry)) at 0 ⌝ }
+{
+    if text.len() <= at {
+        return 0;
+    }
+    text[at]
 }
 
 // The place after those bytes that stand from a place on.

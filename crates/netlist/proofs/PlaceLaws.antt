@@ -2,19 +2,17 @@
 use mathlib.Core.Path.{_≡_, refl, sym, _∙_}
 use mathlib.Core.Bool.{Bool, true, false, cond, false≢true}
 use mathlib.Core.List.{List}
-use mathlib.Core.Logic.{⊎-elim}
 use Prim.Native.Nat.{ℕ, _+_, _≤_, _<_}
 use native.Mathlib.Omega.{arith}
 use lib.Dec.{eqb, ltb}
-use lib.ListN.{length, getD, List·getD-eq-default}
+use lib.ListN.{length, getD}
 use borrow.Author.Tests.{ltb-true, eqb-true}
 use Rattle.units.proofs.Every.{both}
-use Rattle.units.proofs.Integers.{decideN}
 use Rattle.console.specs.Number.{worthAt}
 use Rattle.console.specs.Words.{past}
 use Rattle.console.specs.declared.words.Run.{Run}
 use Rattle.console.specs.declared.words.Run.the-variants.{Blanks, Digits}
-use Rattle.console.proofs.WordLaws.{past-within, past-within-some}
+use Rattle.console.proofs.WordLaws.{byte-there, past-within, past-within-some}
 use Rattle.image.specs.Parts.{noCurve}
 use Rattle.image.specs.declared.parts.Curve.{Curve}
 use Rattle.netlist.specs.Curve.{next, stands, ends, minusAt, digitsAt, breakpointAt, stretchStands, afterStretch, withStretch, withSlope, Stretches, last, more}
@@ -80,7 +78,7 @@ stretches-once (more e rest) (more f rest') = stretches-once rest rest'
 
 -- a minus stands before the end
 pub minus-there : (s : List ℕ) (i : ℕ) → minusAt s i ≡ true → i < length s
-minus-there s i e = ⊎-elim (λ (h : length s ≤ i). absurd (omega (arith, eqb-true (getD s i 0) 45 e, List·getD-eq-default s 0 {n = i} h))) (λ (h : i < length s). h) (decideN (length s) i)
+minus-there s i e = byte-there s i 44 (eqb-true (getD s i 0) 45 e)
 
 -- ---- a curve that is read from the left
 

@@ -4,6 +4,7 @@ use super::said;
 use super::said::Line;
 use super::said::Said;
 use console::number;
+use console::words;
 use console::words::Run;
 use image::Curve;
 ghost use mathlib.Core.Path.{_≡_};
@@ -18,10 +19,7 @@ const MINUS: u8 = 45;
 fn minus_at(s: &[u8], at: usize) -> bool
     ensures { λ r. ⌜ r ≡ minusAt (now (s .entry)) at ⌝ }
 {
-    if s.len() <= at {
-        return false;
-    }
-    s[at] == MINUS
+    words::byte_at(s, at) == MINUS
 }
 
 // Where a breakpoint's digits begin.

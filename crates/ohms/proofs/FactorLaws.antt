@@ -1,7 +1,7 @@
 -- A resistor's value has one reading, however many brackets may be open. Assumes nothing.
 use mathlib.Core.Path.{_≡_, sym, _∙_, ap}
 use mathlib.Core.Bool.{true, false≢true}
-use mathlib.Core.List.{List, [], _∷_}
+use mathlib.Core.List.{List}
 use mathlib.Core.Logic.{_⊎_, inl, inr}
 use Prim.Native.Nat.{ℕ, zero, suc, _+_, _≤_, _<_}
 use native.Mathlib.Omega.{arith}
@@ -11,18 +11,12 @@ use borrow.Author.Tests.{eqb-true}
 use Rattle.units.proofs.Every.{both}
 use Rattle.console.specs.Words.{past}
 use Rattle.console.specs.declared.words.Run.the-variants.{Blanks, Digits}
-use Rattle.console.proofs.WordLaws.{past-within, past-within-some, past-some}
+use Rattle.console.proofs.WordLaws.{byte-there, past-within, past-within-some, past-some}
 use Rattle.ohms.specs.Grammar.{stands, width, Chain, Written, Bracketed, SumOf, Factor, Parallel, Sum}
 use Rattle.ohms.specs.declared.stages.Sign.{Sign}
 use Rattle.ohms.specs.declared.stages.Sign.the-variants.{Plus, Bars}
 use Rattle.ohms.specs.declared.stages.Worth.{Worth}
 use Rattle.ohms.proofs.ChainLaws.{OneReading, chain-reads}
-
--- a byte of the text that is not 0 stands before its end
-pub byte-there : (text : List ℕ) (i b : ℕ) → getD text i 0 ≡ suc b → i < length text
-byte-there [] i b e = absurd (omega (arith, e))
-byte-there (x ∷ text) zero b e = omega arith
-byte-there (x ∷ text) (suc i) b e = omega (arith, byte-there text i b e)
 
 -- and so does a sign
 pub sign-there : (sign : Sign) (text : List ℕ) (i : ℕ) → stands sign text i ≡ true → i + width sign ≤ length text

@@ -8,7 +8,6 @@ use console::words;
 use console::words::Run;
 ghost use mathlib.Core.Path.{_≡_};
 ghost use mathlib.Core.Bool.{true};
-ghost use lib.ListN.{getD};
 ghost use Rattle.ohms.specs.Grammar.{stands, width, Factor, Parallel, Sum, mostOpen};
 ghost use Rattle.ohms.specs.Found.{Right, goesOn, nextAt, withNext, closed};
 ghost use Rattle.ohms.specs.declared.stages.Sign.the-variants.{Bars};
@@ -30,24 +29,14 @@ const BAR: u8 = 124;
 // As many brackets may be open at once.
 const MOST_OPEN: usize = 16;
 
-// The byte at a place, 0 past the end.
-fn byte(text: &[u8], at: usize) -> u8
-    ensures { λ r. ⌜ r ≡ getD (now (text .entry)) at 0 ⌝ }
-{
-    if text.len() <= at {
-        return 0;
-    }
-    text[at]
-}
-
 // Whether two bars stand at a place.
 fn bars(text: &[u8], at: usize) -> bool
     ensures { λ r. ⌜ r ≡ stands Bars (now (text .entry)) at ⌝ }
 {
-    if byte(text, at) != BAR {
+    if words::byte_at(text, at) != BAR {
         return false;
     }
-    byte(text, at + 1) == BAR
+    words::byte_at(text, at + 1) == BAR
 }
 
 // Whether a sign stands at a place.
@@ -55,7 +44,7 @@ fn stands(sign: Sign, text: &[u8], at: usize) -> bool
     ensures { λ r. ⌜ r ≡ stands sign (now (text .entry)) at ⌝ }
 {
     match sign {
-        Sign::Plus => byte(text, at) == PLUS,
+        Sign::Plus => words::byte_at(text, at) == PLUS,
         Sign::Bars => bars(text, at),
     }
 }
@@ -111,7 +100,7 @@ fn closed(text: &[u8], found: Found) -> Found
     match found {
         Found::Nothing => Found::Nothing,
         Found::Value(end, w) => {
-            if byte(text, end) != CLOSE {
+            if words::byte_at(text, end) != CLOSE {
                 return Found::Nothing;
             }
             Found::Value(words::past(Run::Blanks, text, end + 1), w)
@@ -133,7 +122,7 @@ fn factor(text: &[u8], room: usize, at: usize) -> Found
     if room == 0 {
         return Found::Nothing;
     }
-    if byte(text, at) != OPEN {
+    if words::byte_at(text, at) != OPEN {
         return Found::Nothing;
     }
     closed(

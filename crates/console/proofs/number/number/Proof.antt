@@ -1,10 +1,7 @@
-use mathlib.Core.Path.{_≡_, sym, _∙_}
-use Prim.Native.Nat.{_-_}
-use native.Mathlib.Omega.{arith}
-use lib.ListN.{length, take, drop, length-drop}
-use lib.Seq.{take-all}
+use mathlib.Core.Path.{sym, _∙_}
 use borrow.Author.Needs.{needs}
 use Rattle.console.proofs.NumberLaws.{spelt-none, spelt-minus, spelt-plain}
+use Rattle.console.proofs.WordLaws.{from-there}
 use Rattle.console.proofs.number.number.Statement.{statement}
 use Rattle.console.proofs.number.number.Tie as tie
 
@@ -29,8 +26,7 @@ plain-requires c κs = search needs
 returns-2 : tie.Need-returns-2
 returns-2 c =
     let text = c .before .before .before .before .before .before .args .text .now in
-    let all : take (length text - 1) (drop 1 text) ≡ drop 1 text = take-all (length text - 1) (drop 1 text) (omega (arith, length-drop 1 text)) in
-    rw all at (c .plain .ensures) ∙ sym (spelt-minus text (c .before .before .before .before .if1 .left) (c .before .before .if2 .taken))
+    rw (from-there 1 text) at (c .plain .ensures) ∙ sym (spelt-minus text (c .before .before .before .before .if1 .left) (c .before .before .if2 .taken))
 
 plain-requires-2 : tie.Need-plain-requires-2
 plain-requires-2 c κs = search needs

@@ -3,7 +3,7 @@ use mathlib.Core.Bool.{true}
 use mathlib.Core.List.{List}
 use Prim.Native.Nat.{ℕ}
 use native.Mathlib.Omega.{arith}
-use lib.ListN.{length, getD, take, length-take, drop-of-length-le}
+use lib.ListN.{length, length-take, drop-of-length-le}
 use lib.Seq.{getD-take}
 use borrow.Author.Needs.{needs}
 use Rattle.units.proofs.Every.{every-each}

@@ -1,7 +1,7 @@
 use mathlib.Core.Path.{_≡_, _∙_, ap}
 use Prim.Native.Nat.{ℕ, _+_, _-_, _≤_}
 use native.Mathlib.Omega.{arith}
-use lib.ListN.{length, take, drop, length-drop, drop-of-length-le}
+use lib.ListN.{length, drop, length-drop, drop-of-length-le}
 use borrow.Author.Needs.{needs}
 use Rattle.console.specs.Words.{belongs, leading}
 use Rattle.console.proofs.WordLaws.{leading-most, from-there}

@@ -1,11 +1,10 @@
-use mathlib.Core.Path.{_≡_, _∙_}
-use Prim.Native.Nat.{_-_, _≤_}
+use mathlib.Core.Path.{_∙_}
+use Prim.Native.Nat.{_≤_}
 use native.Mathlib.Omega.{arith}
-use lib.ListN.{length, take, drop, length-drop}
-use lib.Seq.{take-all}
+use lib.ListN.{length}
 use borrow.Author.Needs.{needs}
 use Rattle.console.specs.Words.{belongs}
-use Rattle.console.proofs.WordLaws.{leading-most}
+use Rattle.console.proofs.WordLaws.{leading-most, from-there}
 use Rattle.console.proofs.words.rest.Statement.{statement}
 use Rattle.console.proofs.words.rest.Tie as tie
 
@@ -30,8 +29,7 @@ returns : tie.Need-returns
 returns c =
     let n = c .before .leading .result in
     let text = c .before .before .before .args .text .now in
-    let all : take (length text - n) (drop n text) ≡ drop n text = take-all (length text - n) (drop n text) (omega (arith, length-drop n text)) in
-    all ∙ rw (c .before .leading .ensures)
+    from-there n text ∙ rw (c .before .leading .ensures)
 
 pub rest-spec : {M : Type 1} → statement M
 rest-spec =

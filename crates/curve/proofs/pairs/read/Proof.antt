@@ -2,13 +2,13 @@ use mathlib.Core.Path.{_≡_, sym, _∙_, ap}
 use mathlib.Core.List.{[]}
 use Prim.Native.Nat.{ℕ, suc, _+_, _-_, _≤_}
 use native.Mathlib.Omega.{arith}
-use lib.ListN.{length, take, drop, length-drop, drop-of-length-le}
-use lib.Seq.{drop-drop, length-take-le, take-all}
+use lib.ListN.{length, drop, length-drop, drop-of-length-le}
+use lib.Seq.{drop-drop, length-take-le}
 use denote.Ref.{now}
 use borrow.Author.Needs.{needs}
 use Rattle.console.specs.Words.{belongs, first, lines}
 use Rattle.console.specs.declared.words.Run.the-variants.{Line}
-use Rattle.console.proofs.WordLaws.{leading-most}
+use Rattle.console.proofs.WordLaws.{leading-most, from-there}
 use Rattle.curve.specs.Text.{Told, toldBy, answer}
 use Rattle.curve.specs.Kept.{Sized, toldWith}
 use Rattle.curve.proofs.TextLaws.{lineLength, told-none, told-first}
@@ -61,8 +61,7 @@ loop-again c =
     let text = c .before .before .before .before .before .before .before .args .text .now in
     let rest = drop (l .at) text in
     let n = lineLength rest in
-    let all : take (length text - l .at) rest ≡ rest = take-all (length text - l .at) rest (omega (arith, length-drop (l .at) text)) in
-    let line : now (c .before .first .result) ≡ first Line rest = rw all at (c .before .first .ensures) in
+    let line : now (c .before .first .result) ≡ first Line rest = rw (from-there (l .at) text) at (c .before .first .ensures) in
     let few = leading-most (belongs Line) rest in
     let long : length (now (c .before .first .result)) ≡ n = ap length line ∙ length-take-le n rest few in
     let at : l .at + (length (now (c .before .first .result)) + 1) ≡ l .at + suc n = omega (arith, long) in

@@ -13,7 +13,8 @@ use Rattle.console.specs.declared.words.Run.the-variants.{Digits}
 use Rattle.ohms.specs.Worth.{stage}
 use Rattle.ohms.specs.Grammar.{Factor, Parallel}
 use Rattle.ohms.specs.declared.stages.Sign.the-variants.{Plus, Bars}
-use Rattle.ohms.proofs.FactorLaws.{byte-there, factor-reads, parallel-reads}
+use Rattle.console.proofs.WordLaws.{byte-there}
+use Rattle.ohms.proofs.FactorLaws.{factor-reads, parallel-reads}
 use Rattle.ohms.proofs.FoundLaws.{stage-far, factor-written, factor-no-room, factor-unopened, factor-bracketed}
 use Rattle.ohms.proofs.ReadyLaws.{SoFar, left, so-far-first, so-far-more, so-far-done, left-falls, next-later}
 use Rattle.ohms.proofs.reader.factor.Reads as factor
@@ -27,7 +28,7 @@ use Rattle.ohms.proofs.reader.sum.Kinds as sum-kinds
 use Rattle.ohms.proofs.reader.+factor+parallel+sum.Lts-sum as sum-lts
 use Rattle.console.proofs.number.worth_at.Reads as worth-at-reads
 use Rattle.console.proofs.words.past.Reads as past-reads
-use Rattle.ohms.proofs.reader.byte.Reads as byte-reads
+use Rattle.console.proofs.words.byte_at.Reads as byte-at-reads
 use Rattle.ohms.proofs.reader.closed.Reads as closed-reads
 use Rattle.ohms.proofs.reader.goes_on.Reads as goes-on-reads
 use Rattle.ohms.proofs.reader.next_at.Reads as next-at-reads
@@ -84,8 +85,8 @@ factor-claims t = (
   worth-at-reads.Learnt,
   stage-reads.Asked,
   stage-reads.Learnt,
-  byte-reads.Asked,
-  byte-reads.Learnt,
+  byte-at-reads.Asked,
+  byte-at-reads.Learnt,
   sum-below t,
   sum.Post,
   closed-reads.Asked,
@@ -143,14 +144,14 @@ module _ (t : ℕ) where
       let none : past Digits (a .text .now) (a .at) ≤ a .at = rw (c .before .before .past .ensures) at (c .before .if1 .left) in
       factor-no-room (a .text .now) (a .at) none (a .room) (c .if2 .taken)
 
-  factor-byte-requires : factor-lts.Need-byte-requires (factor-claims t) (factor-at t) factor.Post
-  factor-byte-requires c κs = search needs
+  factor-byte-at-requires : factor-lts.Need-byte-at-requires (factor-claims t) (factor-at t) factor.Post
+  factor-byte-at-requires c κs = search needs
 
   factor-returns-3 : factor-lts.Need-returns-3 (factor-claims t) (factor-at t) factor.Post
   factor-returns-3 c =
       let a = c .before .before .before .before .before .before .args in
       let none : past Digits (a .text .now) (a .at) ≤ a .at = rw (c .before .before .before .before .past .ensures) at (c .before .before .before .if1 .left) in
-      factor-unopened (a .text .now) (a .at) none (a .room) (λ e. c .if3 .taken (c .before .byte .ensures ∙ e))
+      factor-unopened (a .text .now) (a .at) none (a .room) (λ e. c .if3 .taken (c .before .byte-at .ensures ∙ e))
 
   factor-sub-sum : factor-lts.Need-sub-sum (factor-claims t) (factor-at t) factor.Post
   factor-sub-sum c = search needs
@@ -158,7 +159,7 @@ module _ (t : ℕ) where
   factor-add-past : factor-lts.Need-add-past (factor-claims t) (factor-at t) factor.Post
   factor-add-past c =
       let a = c .before .before .before .before .before .before .args in
-      omega (arith, byte-there (a .text .now) (a .at) 39 (sym (c .before .byte .ensures) ∙ c .if3 .left))
+      omega (arith, byte-there (a .text .now) (a .at) 39 (sym (c .before .byte-at .ensures) ∙ c .if3 .left))
 
   factor-past-requires-3 : factor-lts.Need-past-requires-3 (factor-claims t) (factor-at t) factor.Post
   factor-past-requires-3 c κs = search needs
@@ -166,7 +167,7 @@ module _ (t : ℕ) where
   factor-sum-requires : factor-lts.Need-sum-requires (factor-claims t) (factor-at t) factor.Post
   factor-sum-requires c κs =
       let a = c .before .before .before .before .before .before .before .args in
-      let there = byte-there (a .text .now) (a .at) 39 (sym (c .before .before .byte .ensures) ∙ c .before .if3 .left) in
+      let there = byte-there (a .text .now) (a .at) 39 (sym (c .before .before .byte-at .ensures) ∙ c .before .if3 .left) in
       omega (arith, c .past3 .ensures)
 
   factor-closed-requires : factor-lts.Need-closed-requires (factor-claims t) (factor-at t) factor.Post
@@ -177,7 +178,7 @@ module _ (t : ℕ) where
       let a = c .before .before .before .before .before .before .before .before .before .args in
       let text = a .text .now in
       let none : past Digits text (a .at) ≤ a .at = rw (c .before .before .before .before .before .before .before .past .ensures) at (c .before .before .before .before .before .before .if1 .left) in
-      let opened = sym (c .before .before .before .before .byte .ensures) ∙ c .before .before .before .if3 .left in
+      let opened = sym (c .before .before .before .before .byte-at .ensures) ∙ c .before .before .before .if3 .left in
       rw (c .closed .ensures) (factor-bracketed text (a .at) none (a .room) (omega arith) opened (c .before .sum .result) (rw (c .before .before .past3 .ensures) at (c .before .sum .ensures)))
 
   parallel-factor-requires : parallel-lts.Need-factor-requires (parallel-claims t) (parallel-at t) parallel.Post parallel-Inv-loop parallel-μ-loop
@@ -284,7 +285,7 @@ pub +factor+parallel+sum-spec : {M : Type 1} → statement M
     (factor-stage-requires t)
     (factor-returns t)
     (factor-returns-2 t)
-    (factor-byte-requires t)
+    (factor-byte-at-requires t)
     (factor-returns-3 t)
     (factor-sub-sum t)
     (factor-add-past t)

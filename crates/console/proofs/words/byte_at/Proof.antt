@@ -2,8 +2,8 @@ use mathlib.Core.Path.{sym}
 use native.Mathlib.Omega.{arith}
 use lib.ListN.{List·getD-eq-default}
 use borrow.Author.Needs.{needs}
-use Rattle.ohms.proofs.reader.byte.Statement.{statement}
-use Rattle.ohms.proofs.reader.byte.Tie as tie
+use Rattle.console.proofs.words.byte_at.Statement.{statement}
+use Rattle.console.proofs.words.byte_at.Tie as tie
 
 returns : tie.Need-returns
 returns c =
@@ -16,5 +16,5 @@ shared-slice-read-result c = search needs
 returns-2 : tie.Need-returns-2
 returns-2 c = search needs
 
-pub byte-spec : {M : Type 1} → statement M
-byte-spec = tie.close (tie.spec returns shared-slice-read-result returns-2)
+pub byte-at-spec : {M : Type 1} → statement M
+byte-at-spec = tie.close (tie.spec returns shared-slice-read-result returns-2)
