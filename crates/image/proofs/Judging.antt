@@ -22,16 +22,34 @@ held : (n : Number) (b : Bool) (rest : Number) → 1 ≤ numberOf n → judgedBy
 held n true rest some e = (refl, e)
 held n false rest some e = absurd (omega (arith, ap numberOf e))
 
--- parts that are judged by 0 are sound, and their conductances fit
-pub judged-sound : (parts : Parts) → judged parts ≡ number.Done → Sound parts × (conductancesFit parts plain ≡ true)
+-- each of the rules 2 to 6
+pub record Keeps (parts : Parts) : Type 0 where
+  pub header : headerFits parts ≡ true
+  pub sizes : curveSizesFit parts ≡ true
+  pub curves : curvesFit parts ≡ true
+  pub elements : elementsFit parts ≡ true
+  pub conductances : conductancesFit parts plain ≡ true
+
+-- parts that are judged by 0 keep them all, and those that do are
+pub judged-keeps : (parts : Parts) → judged parts ≡ number.Done → Keeps parts
 unfolding judged
-judged-sound parts e =
+judged-keeps parts e =
     let a = held number.Trailer (headerFits parts) _ (omega arith) e in
     let b = held number.Sizes (curveSizesFit parts) _ (omega arith) (a .1) in
     let c = held number.Curve (curvesFit parts) _ (omega arith) (b .1) in
     let d = held number.Element (elementsFit parts) _ (omega arith) (c .1) in
     let f = held number.Conductance (conductancesFit parts plain) _ (omega arith) (d .1) in
-    (sound parts (a .0) (b .0) (c .0) (d .0), f .0)
+    record { header = a .0; sizes = b .0; curves = c .0; elements = d .0; conductances = f .0 }
+
+pub keeps-judged : (parts : Parts) → Keeps parts → judged parts ≡ number.Done
+unfolding judged
+keeps-judged parts k = rw (k .header, k .sizes, k .curves, k .elements, k .conductances)
+
+-- parts that are judged by 0 are sound, and their conductances fit
+pub judged-sound : (parts : Parts) → judged parts ≡ number.Done → Sound parts × (conductancesFit parts plain ≡ true)
+judged-sound parts e =
+    let k = judged-keeps parts e in
+    (sound parts (k .header) (k .sizes) (k .curves) (k .elements), k .conductances)
 
 -- those of an image that is opened break no rule but the sixth
 pub opened-judged : (image : List ℕ) (parts : Parts) → openingOf image ≡ opened parts → judged parts ≡ cond (conductancesFit parts plain) number.Done number.Conductance

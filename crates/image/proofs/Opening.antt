@@ -100,9 +100,13 @@ rule-held n false rest parts e = let z : _≡_ {A = ℕ} 0 1 = cc in absurd (ome
 same-parts : (a b : Parts) → opened a ≡ opened b → b ≡ a
 same-parts a b e = cc
 
--- the parts of an opened image are those that lie in it, and keep the rules 2 to 5 over parts
+-- the parts of an opened image are those that lie in it, and keep the rules 2 to 5 over parts; the image keeps those with a layout
 pub record Kept (image : List ℕ) (parts : Parts) : Type 0 where
   pub is : parts ≡ partsOf image
+  pub length-fits : lengthFits (length image) ≡ true
+  pub trailer-fits : trailerFits image ≡ true
+  pub sizes-fit : sizesFit image ≡ true
+  pub curve-bytes-fit : curveBytesFit image ≡ true
   pub header : headerFits parts ≡ true
   pub sizes : curveSizesFit parts ≡ true
   pub curves : curvesFit parts ≡ true
@@ -120,6 +124,10 @@ opened-kept image parts e =
     let padding = every (λ (k : ℕ). paddingFits (curveBytesAt image k)) (headerOf image .«curve_count») in
     record {
       is = is;
+      length-fits = a .0;
+      trailer-fits = b .0;
+      sizes-fit = c .0;
+      curve-bytes-fit = d .0;
       header = rw is (trailer-says image (b .0));
       sizes = rw is (sizes-say image (b .0) (c .0) .sizes);
       curves = rw is (both {a = padding} {b = curvesFit (partsOf image)} (d .0) .1);

@@ -8,7 +8,7 @@ use native.Mathlib.Numerals.{add-one}
 use lib.Dec.{eqb, leb, ltb}
 use lib.IntN.{pos, natAbs}
 use lib.ListN.{getD}
-use borrow.Author.Tests.{leb-true, ltb-true, eqb-false, not-true}
+use borrow.Author.Tests.{leb-true, ltb-true, eqb-true, eqb-false, not-true}
 use Rattle.units.specs.Table.{between, every}
 use Rattle.units.proofs.Tables.{tabulate-length, tabulate-at, tabulate-past}
 use Rattle.units.proofs.Every.{both, between-says, every-says, every-same}
@@ -30,8 +30,11 @@ pub record HeaderSays (parts : Parts) : Type 0 where
   pub some-node : 1 ≤ parts .nodes
   pub few-nodes : parts .nodes ≤ nodeLimit
   pub driven-there : parts .driven ≤ parts .nodes
+  pub rate-low : lowestRate ≤ parts .rate
+  pub rate-high : parts .rate ≤ highestRate
   pub some-output : 1 ≤ parts .output
   pub output-there : parts .output ≤ parts .nodes
+  pub version-is : parts .version ≡ version1
 
 pub header-says : (parts : Parts) → headerFits parts ≡ true → HeaderSays parts
 unfolding headerFits
@@ -44,6 +47,7 @@ header-says parts e =
     let h = both {a = between 1 branchLimit (parts .«element_count»)} {b = leb (parts .«curve_count») curveLimit} (g .0) in
     let elements = between-says 1 branchLimit (parts .«element_count») (h .0) in
     let nodes = between-says 1 nodeLimit (parts .nodes) (g .1) in
+    let rate = between-says lowestRate highestRate (parts .rate) (d .1) in
     let output = between-says 1 (parts .nodes) (parts .output) (c .1) in
     record {
       some-element = elements .0;
@@ -52,8 +56,11 @@ header-says parts e =
       some-node = nodes .0;
       few-nodes = nodes .1;
       driven-there = leb-true (parts .driven) (parts .nodes) (f .1);
+      rate-low = rate .0;
+      rate-high = rate .1;
       some-output = output .0;
       output-there = output .1;
+      version-is = eqb-true (parts .version) version1 (b .1);
     }
 
 -- rule 3: the size of each curve

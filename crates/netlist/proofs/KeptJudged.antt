@@ -12,16 +12,17 @@ use lib.ListN.{getD}
 use borrow.Author.Tests.{leb-true, eqb-true}
 use Rattle.units.specs.Number.{numberOf}
 use Rattle.units.specs.Table.{every}
-use Rattle.units.specs.declared.number.Number.{Number}
 use Rattle.units.specs.declared.number.Number.the-variants as number
 use Rattle.units.proofs.Every.{both, between-says, every-says}
 use Rattle.units.proofs.Integers.{decideN}
+use Rattle.units.proofs.Numbers.{done-only}
 use Rattle.network.specs.Network.{reading, breakpointCountLimit, conductanceLimit}
-use Rattle.image.specs.Judged.{judgedBy, judged}
+use Rattle.image.specs.Judged.{judged}
 use Rattle.image.specs.Parts.{noElement, noCurve, noParts, elementOf, curveOf, headerFits, curveSizeFits, curveSizesFit, slopeFits, breakpointFits, rises, curveFits, curvesFit, elementsFit}
 use Rattle.image.specs.declared.parts.Curve.{Curve}
 use Rattle.image.specs.declared.parts.Element.{Element}
 use Rattle.image.specs.declared.parts.Parts.{Parts}
+use Rattle.image.proofs.Judging.{judged-keeps}
 use Rattle.image.proofs.Places.{element-there, curve-there}
 use Rattle.image.proofs.Says.{header-says}
 use Rattle.netlist.specs.Answer.{judgedAnswer, atEnd}
@@ -41,11 +42,6 @@ kept-judged parts =
     (λ f. judged-same number.Curve (curves-kept parts (small parts e) f)
     (λ g. judged-same number.Element (elements-kept parts (small parts e) e)
     (λ h. judged-same number.Conductance (conductances-kept parts (small parts e)) (λ i. refl)))))
-
--- a rule with a number of its own that gave 0 holds
-passed : (n : Number) (b : Bool) (rest : Number) → 1 ≤ numberOf n → numberOf (judgedBy n b rest) ≡ 0 → (b ≡ true) × (numberOf rest ≡ 0)
-passed n true rest some e = (refl, e)
-passed n false rest some e = absurd (omega arith)
 
 -- a list of which each place is kept as it is
 each-kept {ℓ} : {A : Type ℓ} (f : A → A) (l : List A) (d : A) → ((j : ℕ) → f (getD l j d) ≡ getD l j d) → map f l ≡ l
@@ -89,14 +85,11 @@ module _ (parts : Parts) (tidy : Tidy parts) where
 
   -- what is kept of parts that pass is all of them
   pub all-kept : numberOf (judged parts) ≡ 0 → keptParts parts ≡ parts
-  unfolding judged keptParts keptHeader
+  unfolding keptParts keptHeader
   all-kept e =
-      let a = passed number.Trailer (headerFits parts) _ (omega arith) e in
-      let b = passed number.Sizes (curveSizesFit parts) _ (omega arith) (a .1) in
-      let c = passed number.Curve (curvesFit parts) _ (omega arith) (b .1) in
-      let d = passed number.Element (elementsFit parts) _ (omega arith) (c .1) in
-      rw (each-kept keptElement (parts .elements) noElement (elements-all (a .0) (d .0)), each-kept keptCurve (parts .curves) noCurve (curves-all (b .0) (c .0)))
-      (small-kept parts (small parts (a .0)))
+      let k = judged-keeps parts (done-only (judged parts) e) in
+      rw (each-kept keptElement (parts .elements) noElement (elements-all (k .header) (k .elements)), each-kept keptCurve (parts .curves) noCurve (curves-all (k .sizes) (k .curves)))
+      (small-kept parts (small parts (k .header)))
 
   -- the answer by the rules is the same
   answer-kept : judgedAnswer (keptParts parts) ≡ judgedAnswer parts

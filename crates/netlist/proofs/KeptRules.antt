@@ -10,16 +10,16 @@ use lib.Dec.{eqb, leb, ltb}
 use lib.IntN.{ℤ, pos, negsuc, natAbs}
 use lib.ListN.{getD, List·getD-map}
 use borrow.Author.Tests.{leb-true, ltb-true, eqb-true, lt-leb, le-ltb, ne-eqb}
-use Rattle.units.specs.Table.{between, every}
+use Rattle.units.specs.Table.{every}
 use Rattle.units.specs.declared.number.Number.{Number}
 use Rattle.units.proofs.Every.{both, between-says, every-says, every-same}
 use Rattle.units.proofs.Integers.{decideN}
 use Rattle.units.proofs.Sizes.{abs-neg}
 use Rattle.network.specs.Kind.{hasCurve}
-use Rattle.network.specs.Network.{reading, nodeLimit, branchLimit, breakpointLimit, breakpointCountLimit, conductanceLimit}
+use Rattle.network.specs.Network.{reading, nodeLimit, breakpointLimit, breakpointCountLimit, conductanceLimit}
 use Rattle.image.specs.Conductance.{conductanceBy, conductanceFits, conductancesFit}
 use Rattle.image.specs.Judged.{judgedBy}
-use Rattle.image.specs.Parts.{curveLimit, lowestRate, highestRate, version1, noElement, noCurve, elementOf, curveOf, headerFits, curveSizeFits, curveSizesFit, slopeFits, breakpointFits, rises, curveFits, curvesFit, kindAllowed, elementFits, elementsFit}
+use Rattle.image.specs.Parts.{curveLimit, noElement, noCurve, elementOf, curveOf, headerFits, curveSizeFits, curveSizesFit, slopeFits, breakpointFits, rises, curveFits, curvesFit, kindAllowed, elementFits, elementsFit}
 use Rattle.image.specs.Setting.{plain}
 use Rattle.image.specs.declared.parts.Curve.{Curve}
 use Rattle.image.specs.declared.parts.Element.{Element}
@@ -61,26 +61,16 @@ judged-same n {b = false} e f = rw e
 -- ---- the header
 
 -- no number of a header that passes is too large, nor is one of which what is kept passes
-rate-says : (parts : Parts) → headerFits parts ≡ true → parts .rate ≤ highestRate
-unfolding headerFits
-rate-says parts e =
-    let b = both {b = eqb (parts .version) version1} e in
-    let c = both {b = between 1 (parts .nodes) (parts .output)} (b .0) in
-    let d = both {a = between 1 branchLimit (parts .«element_count») && leb (parts .«curve_count») curveLimit && between 1 nodeLimit (parts .nodes) && leb (parts .driven) (parts .nodes)} {b = between lowestRate highestRate (parts .rate)} (c .0) in
-    between-says lowestRate highestRate (parts .rate) (d .1) .1
-
 pub small : (parts : Parts) → headerFits parts ≡ true → Small parts
 small parts e =
     let h = header-says parts e in
-    let r = rate-says parts e in
     record { nodes = omega arith; driven = omega arith; output = omega arith; rate = omega arith; elements = omega arith; curves = omega arith }
 
 kept-small : (parts : Parts) → headerFits (keptParts parts) ≡ true → Small parts
 unfolding keptParts
 kept-small parts e =
     let h = header-says (keptParts parts) e in
-    let r = rate-says (keptParts parts) e in
-    record { nodes = omega (arith, h .few-nodes); driven = omega (arith, h .few-nodes, h .driven-there); output = omega (arith, h .few-nodes, h .output-there); rate = omega arith; elements = omega (arith, h .few-elements); curves = omega (arith, h .few-curves) }
+    record { nodes = omega (arith, h .few-nodes); driven = omega (arith, h .few-nodes, h .driven-there); output = omega (arith, h .few-nodes, h .output-there); rate = omega (arith, h .rate-high); elements = omega (arith, h .few-elements); curves = omega (arith, h .few-curves) }
 
 header-same : (parts : Parts) → Small parts → headerFits (keptParts parts) ≡ headerFits parts
 unfolding headerFits keptParts keptHeader

@@ -6,3 +6,4 @@ pub mod KeptRules
 pub mod KeptJudged
 pub mod TextLaws
 pub mod Promise
+pub mod ValueLaws

@@ -4,3 +4,4 @@ pub mod FactorLaws
 pub mod FoundLaws
 pub mod Promise
 mod ReadyLaws
+pub mod WithinLaws

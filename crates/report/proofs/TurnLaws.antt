@@ -4,9 +4,9 @@ use Prim.Native.Nat.{ℕ, _+_, _*_}
 use native.Mathlib.Nat.{mul-suc}
 use native.Mathlib.Numerals.{add-one}
 use native.Mathlib.Omega.{arith}
+use Rattle.units.specs.Table.{inTurn}
 use Rattle.console.specs.Text.{Adds}
 use Rattle.console.proofs.TextLaws.{adds-none, adds-then, adds-within}
-use Rattle.report.specs.Fields.{inTurn}
 
 module _ (text : ℕ → List ℕ) {at : ℕ} {a : List ℕ} where
   -- none yet

@@ -3,10 +3,10 @@ use mathlib.Core.List.{List, [], _∷_, _++_}
 use Prim.Native.Nat.{ℕ, suc}
 use lib.IntN.{ℤ, pos}
 use lib.ListN.{getD}
+use Rattle.units.specs.Table.{inTurn}
 use Rattle.network.specs.Network.{reading}
 use Rattle.image.specs.declared.parts.Curve.{Curve}
 use Rattle.console.specs.Text.{number, lineEnd}
-use Rattle.report.specs.Fields.{inTurn}
 
 -- a number after a space, and the first n of some numbers
 abbrev pub spaced : ℤ → List ℕ

@@ -1,6 +1,6 @@
 -- The fields of a line, and texts of one kind after one another. Assumes nothing.
 use mathlib.Core.List.{List, [], _∷_, _++_}
-use Prim.Native.Nat.{ℕ, zero, suc}
+use Prim.Native.Nat.{ℕ}
 use Rattle.console.specs.Text.{decimal, lineEnd}
 
 -- a number, and a space after it
@@ -14,8 +14,3 @@ lastColumn n = decimal n ++ lineEnd
 -- a line of a word, which ends with its space, and a number
 abbrev pub namedLine : List ℕ → ℕ → List ℕ
 namedLine word n = word ++ lastColumn n
-
--- the first n of some texts, in turn
-unfoldable pub inTurn : (ℕ → List ℕ) → ℕ → List ℕ
-inTurn text zero = []
-inTurn text (suc n) = inTurn text n ++ text n

@@ -4,10 +4,11 @@ use mathlib.Core.List.{List, [], _∷_, _++_}
 use mathlib.Core.Logic.{_⊎_}
 use Prim.Native.Nat.{ℕ, suc, _+_, _-_, _<_}
 use Rattle.units.specs.Integer.{roundedUp}
+use Rattle.units.specs.Table.{inTurn}
 use Rattle.network.specs.Network.{Network, held, steepest}
 use Rattle.network.specs.Bound.{LeastEnough}
 use Rattle.console.specs.Text.{Adds}
-use Rattle.report.specs.Fields.{column, lastColumn, namedLine, inTurn}
+use Rattle.report.specs.Fields.{column, lastColumn, namedLine}
 
 -- a node's number, its held conductance, its steepest sum, and the least B for e = 0: their quotient, rounded up
 abbrev pub nodeLine : Network → ℕ → List ℕ

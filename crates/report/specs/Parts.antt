@@ -3,12 +3,13 @@ use mathlib.Core.Bool.{cond}
 use mathlib.Core.List.{List, [], _∷_, _++_}
 use Prim.Native.Nat.{ℕ}
 use lib.Dec.{eqb}
+use Rattle.units.specs.Table.{inTurn}
 use Rattle.network.specs.Kind.{resistorKind, capacitorKind, inductorKind, hasCurve}
 use Rattle.image.specs.Parts.{elementOf}
 use Rattle.image.specs.Conductance.{conductanceBy}
 use Rattle.image.specs.declared.parts.Element.{Element}
 use Rattle.image.specs.declared.parts.Parts.{Parts}
-use Rattle.report.specs.Fields.{column, lastColumn, namedLine, inTurn}
+use Rattle.report.specs.Fields.{column, lastColumn, namedLine}
 
 -- ---- the numbers of the whole circuit
 

@@ -40,6 +40,12 @@ tabulate-at f (suc n) (suc i) d h = tabulate-at (λ (j : ℕ). f (suc j)) n i d 
 pub tabulate-past {ℓ} : {A : Type ℓ} (f : ℕ → A) (n i : ℕ) (d : A) → n ≤ i → getD (tabulate f n) i d ≡ d
 tabulate-past f n i d h = List·getD-eq-default (tabulate f n) d (omega (arith, tabulate-length f n))
 
+-- the same places
+pub tabulate-same {ℓ} : {A : Type ℓ} (f g : ℕ → A) (n : ℕ) → ((i : ℕ) → i < n → f i ≡ g i) → tabulate f n ≡ tabulate g n
+unfolding tabulate
+tabulate-same f g zero same = refl
+tabulate-same f g (suc n) same = rw (same 0 (omega arith)) (ap (_∷_ (g 0)) (tabulate-same (λ (j : ℕ). f (suc j)) (λ (j : ℕ). g (suc j)) n (λ i h. same (suc i) (omega arith))))
+
 -- ---- padded
 
 module _ {ℓ} {A : Type ℓ} (none : A) (size : ℕ) (f : ℕ → A) where
@@ -91,6 +97,15 @@ module _ {ℓ} {A : Type ℓ} (none : A) (size : ℕ) (f : ℕ → A) where
           getD-set-other (padded none size f n) n i v none (λ r. omega arith)
           ∙ padded-past n i (omega arith)
           ∙ sym (padded-past (n + 1) i (omega arith))
+
+-- filled alike
+pub padded-same {ℓ} : {A : Type ℓ} (none : A) (size : ℕ) (f g : ℕ → A) (n : ℕ) → ((i : ℕ) → i < n → f i ≡ g i) → padded none size f n ≡ padded none size g n
+unfolding padded
+padded-same none size f g n same =
+    tabulate-same (λ (j : ℕ). cond (ltb j n) (f j) none) (λ (j : ℕ). cond (ltb j n) (g j) none) size (λ i h. each i)
+  where
+    each : (i : ℕ) → cond (ltb i n) (f i) none ≡ cond (ltb i n) (g i) none
+    each i = ⊎-elim (λ (h : n ≤ i). rw (le-ltb i n h)) (λ (h : i < n). rw (lt-ltb i n h, same i h)) (decideN n i)
 
 -- ---- overlaid
 

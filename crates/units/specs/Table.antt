@@ -19,6 +19,11 @@ unfoldable pub overlaid {ℓ} : {A : Type ℓ} → List A → ℕ → List A →
 overlaid l at [] = l
 overlaid l at (v ∷ values) = overlaid (set l at v) (at + 1) values
 
+-- some lists, one after the other: f 0, f 1, .., f (n - 1)
+unfoldable pub inTurn {ℓ} : {A : Type ℓ} → (ℕ → List A) → ℕ → List A
+inTurn f zero = []
+inTurn f (suc n) = inTurn f n ++ f n
+
 -- n lies from low to high
 abbrev pub between : ℕ → ℕ → ℕ → Bool
 between low high n = leb low n && leb n high

@@ -1,0 +1,9 @@
+pub mod Overlaying
+pub mod Answers
+pub mod Stands
+pub mod Elements
+pub mod CurveLaws
+pub mod ReachedLaws
+pub mod ReadBack
+pub mod WriteBack
+pub mod Promise
