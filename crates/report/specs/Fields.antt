@@ -1,4 +1,4 @@
--- The fields of a line, and texts of one kind after one another. Assumes nothing.
+-- The fields of a line. Assumes nothing.
 use mathlib.Core.List.{List, [], _∷_, _++_}
 use Prim.Native.Nat.{ℕ}
 use Rattle.console.specs.Text.{decimal, lineEnd}

@@ -17,11 +17,11 @@ use Rattle.writing.proofs.Overlaying.{image-length}
 module _ (parts : Parts) (buffer : List ℕ) where
   -- ---- the answer, by the first thing that stands against the image
 
-  pub answers-broken : (numberOf (judged parts) ≡ 0 → ⊥) → answerFor parts (length buffer) ≡ numberOf (judged parts)
+  answers-broken : (numberOf (judged parts) ≡ 0 → ⊥) → answerFor parts (length buffer) ≡ numberOf (judged parts)
   unfolding answerFor
   answers-broken broken = rw (ne-eqb (numberOf (judged parts)) 0 broken)
 
-  pub answers-short : numberOf (judged parts) ≡ 0 → length buffer < length (imageOf parts) → answerFor parts (length buffer) ≡ shortBuffer
+  answers-short : numberOf (judged parts) ≡ 0 → length buffer < length (imageOf parts) → answerFor parts (length buffer) ≡ shortBuffer
   unfolding answerFor
   answers-short held short = rw (held, lt-leb (length (imageOf parts)) (length buffer) short)
 

@@ -1,5 +1,6 @@
 pub mod Overlaying
 pub mod Answers
+pub mod Longest
 pub mod Stands
 pub mod Elements
 pub mod CurveLaws

@@ -73,7 +73,7 @@ module _ (f : ℕ → List ℕ) where
   unfolding inTurn
   turn-more l at n p q e s = q ∙ rw (p, e, s, add-one n) (overlaid-append l at (inTurn f n) (f n))
 
-  pub turns-length : (w : ℕ) → ((j : ℕ) → length (f j) ≡ w) → (n : ℕ) → length (inTurn f n) ≡ w * n
+  turns-length : (w : ℕ) → ((j : ℕ) → length (f j) ≡ w) → (n : ℕ) → length (inTurn f n) ≡ w * n
   unfolding inTurn
   turns-length w each zero = omega arith
   turns-length w each (suc n) = omega (arith, length-append (inTurn f n) (f n), each n, turns-length w each n)
@@ -110,7 +110,7 @@ abbrev pub curveIn : List Curve → ℕ → List ℕ
 curveIn curves k = curveBytes (getD curves k noCurve)
 
 -- the code's read of a curve has another default, which has the same bytes
-abbrev pub readPast : Curve
+abbrev readPast : Curve
 readPast = record { count = 0; slopes = []; breakpoints = [] }
 
 past-same : curveBytes readPast ≡ curveBytes noCurve
@@ -132,7 +132,7 @@ curves-there parts = turn-same _ _ (parts .«curve_count») (λ k h. ap curveByt
 
 -- ---- how many bytes
 
-pub element-length : (e : Element) → length (elementBytes e) ≡ elementSize
+element-length : (e : Element) → length (elementBytes e) ≡ elementSize
 unfolding elementBytes bytesOf
 element-length e = refl
 
@@ -152,7 +152,7 @@ curve-length c =
     let breakpoints = inTurn (breakpointBytes (c .breakpoints)) (c .count) in
     omega (arith, length-append slopes breakpoints, slopes-length (c .slopes) (c .count + 1), breakpoints-length (c .breakpoints) (c .count))
 
-pub trailer-length : (elements curves : ℕ) (parts : Parts) → length (trailerBytes elements curves parts) ≡ trailerSize
+trailer-length : (elements curves : ℕ) (parts : Parts) → length (trailerBytes elements curves parts) ≡ trailerSize
 unfolding trailerBytes bytesOf
 trailer-length elements curves parts = refl
 

@@ -2,36 +2,38 @@
 -- writing the parts of an accepted image gives its bytes; the writer accepts exactly the parts whose image is accepted. Assumes nothing.
 use mathlib.Core.Path.{_≡_, refl, sym, _∙_, ap}
 use mathlib.Core.Bool.{Bool, true, false, _&&_, cond}
-use mathlib.Core.List.{List}
+use mathlib.Core.List.{List, _++_}
 use mathlib.Core.Logic.{_↔_}
-use Prim.Native.Nat.{ℕ, zero, suc, _+_, _*_, _-_, _≤_, _<_}
+use Prim.Native.Nat.{ℕ, _+_, _*_, _-_, _≤_, _<_}
 use native.Mathlib.Omega.{arith}
-use lib.ListN.{length, getD, take, drop, length-append}
+use lib.Dec.{eqb}
+use lib.ListN.{length, getD, take, drop}
 use lib.Seq.{take-append-seam}
-use borrow.Author.Tests.{eq-eqb, le-leb}
-use Rattle.units.specs.Table.{inTurn}
+use borrow.Author.Tests.{eq-eqb, eqb-true}
+use Rattle.units.specs.Number.{numberOf}
 use Rattle.units.proofs.Every.{between-says, every-each}
+use Rattle.units.proofs.Numbers.{done-only}
 use Rattle.units.specs.declared.number.Number.{Number}
 use Rattle.units.specs.declared.number.Number.the-variants as number
-use Rattle.network.specs.Network.{breakpointCountLimit}
 use Rattle.image.specs.Conductance.{conductancesFit}
 use Rattle.image.specs.Curve.{paddingFits}
 use Rattle.image.specs.Format.{elementSize, shortest, longest, headerOf, curveBytesAt, partsOf, lengthFits, trailerFits, sizesFit, curveBytesFit, Opening, opened, rule, openingOf}
 use Rattle.image.specs.Judged.{judgedBy, judged}
 use Rattle.image.specs.Meaning.{networkAt}
-use Rattle.image.specs.Parts.{elementOf, curveOf, headerFits, curveSizesFit, curvesFit, elementsFit}
+use Rattle.image.specs.Parts.{elementOf, headerFits, curveSizesFit, curvesFit, elementsFit}
 use Rattle.image.specs.Setting.{Setting, plain}
 use Rattle.image.proofs.Judging.{Keeps, judged-keeps, keeps-judged, judged-sound, opened-judged}
 use Rattle.image.proofs.Opening.{opened-kept, opened-0}
-use Rattle.image.proofs.Says.{header-says, curve-size}
 use Rattle.image.specs.declared.parts.Parts.{Parts}
 use Rattle.image.specs.declared.parts.Curve.{Curve}
 use Rattle.writing.specs.Accepted.{Accepted, numberFor, imageNumber}
 use Rattle.writing.specs.Image.{curveBytes, elementsBytes, curvesBytes, imageOf}
 use Rattle.writing.specs.Reached.{reached, InWidths}
 use Rattle.writing.specs.Writes.{answerFor, Writes}
+use Rattle.writing.proofs.Answers.{answers-image}
 use Rattle.writing.proofs.Elements.{element-distance-read, curve-distance-read, size-read}
-use Rattle.writing.proofs.Overlaying.{elements-length, curve-length, image-length}
+use Rattle.writing.proofs.Longest.{length-fits}
+use Rattle.writing.proofs.Overlaying.{elements-length, image-length}
 use Rattle.writing.proofs.ReachedLaws.{header-reached, sizes-reached, curves-reached, elements-reached, conductances-reached, network-reached}
 use Rattle.writing.proofs.ReadBack.{trailerPlace, trailer-place, trailer-at-end, header-back, curve-start, curve-bytes-back, parts-back}
 use Rattle.writing.proofs.WriteBack.{written-back}
@@ -124,25 +126,6 @@ as-the-image parts small long =
     conductance-alike true = refl
     conductance-alike false = refl
 
--- parts that break no rule have an image of a length that is allowed
-module _ (parts : Parts) (keeps : Keeps parts) where
-  abbrev curveFrom : ℕ → List ℕ
-  curveFrom k = curveBytes (curveOf parts k)
-
-  curve-few : (k : ℕ) → k < parts .«curve_count» → length (curveFrom k) ≤ 136
-  curve-few k h = omega (arith, curve-length (curveOf parts k), between-says 1 breakpointCountLimit (curveOf parts k .count) (curve-size parts (keeps .sizes) k h) .1)
-
-  curves-few : (k : ℕ) → k ≤ parts .«curve_count» → length (inTurn curveFrom k) ≤ 136 * k
-  unfolding inTurn
-  curves-few zero h = omega arith
-  curves-few (suc k) h = omega (arith, curves-few k (omega arith), length-append (inTurn curveFrom k) (curveFrom k), curve-few k (omega arith))
-
-  length-fits : lengthFits (length (imageOf parts)) ≡ true
-  length-fits =
-      let says = header-says parts (keeps .header) in
-      let few = curves-few (parts .«curve_count») (omega arith) in
-      rw (le-leb shortest (length (imageOf parts)) (omega (arith, image-length parts, says .some-element)), le-leb (length (imageOf parts)) longest (omega (arith, image-length parts, says .few-elements, says .few-curves, few)))
-
 -- the image of parts that break no rule is accepted, as these parts as far as their counts reach
 pub read-back : (parts : Parts) → InWidths parts → judged parts ≡ number.Done → Accepted (imageOf parts) (reached parts)
 read-back parts small e =
@@ -150,11 +133,23 @@ read-back parts small e =
     let keeps = judged-keeps parts e in
     let h = keeps .header in
     let s = keeps .sizes in
-    let long = length-fits parts keeps in
+    let long = length-fits parts h s in
     record {
       opening = opened-0 image long (trailer-is parts small ∙ h) (sizes-are parts small h long ∙ s) (curves-are parts small h s ∙ keeps .curves) (elements-are parts small h ∙ keeps .elements) ∙ ap opened (parts-back parts small);
       conductances = conductances-reached parts h plain ∙ keeps .conductances;
     }
+
+-- so it is what the writer leaves, where it answers by 0
+answer-judged : (parts : Parts) (room : ℕ) → answerFor parts room ≡ 0 → judged parts ≡ number.Done
+unfolding answerFor
+answer-judged parts room e = done-only (judged parts) (go (eqb (numberOf (judged parts)) 0) refl)
+  where
+    go : (t : Bool) → eqb (numberOf (judged parts)) 0 ≡ t → numberOf (judged parts) ≡ 0
+    go true q = eqb-true (numberOf (judged parts)) 0 q
+    go false q = rw q at e
+
+pub write-read : (parts : Parts) → InWidths parts → (before : List ℕ) (r : Written) (after : List ℕ) → Writes parts before r after → r .number ≡ 0 → Accepted (take (r .length) after) (reached parts)
+write-read parts small before r after w e = rw (written-stands parts before r after w e) (read-back parts small (answer-judged parts (length before) (sym (w .number) ∙ e)))
 
 -- parts whose image is accepted break no rule
 accepted-keeps : (parts : Parts) → InWidths parts → (found : Parts) → Accepted (imageOf parts) found → Keeps parts
@@ -193,6 +188,13 @@ write-back image bytes parts a =
     let kept = opened-kept image parts (a .opening) in
     (opened-judged image parts (a .opening) ∙ rw (a .conductances), ap imageOf (kept .is) ∙ written-back image bytes (rw (kept .is) at kept))
 
--- so there is one accepted image for given parts
+-- so the writer makes it of them, in a buffer that has room for it
+pub write-again : (image : List ℕ) → ((i : ℕ) → getD image i 0 < 256) → (parts : Parts) → Accepted image parts → (before : List ℕ) → length image ≤ length before → (r : Written) (after : List ℕ) → Writes parts before r after → (r .number ≡ 0) × (after ≡ image ++ drop (length image) before)
+write-again image bytes parts a before room r after w =
+    let back = write-back image bytes parts a in
+    let answer = answers-image parts before (ap numberOf (back .0)) (rw (back .1) room) in
+    (w .number ∙ answer, w .buffer ∙ rw (answer, back .1))
+
+-- and there is one accepted image for given parts
 pub one-image : (a b : List ℕ) → ((i : ℕ) → getD a i 0 < 256) → ((i : ℕ) → getD b i 0 < 256) → (parts : Parts) → Accepted a parts → Accepted b parts → a ≡ b
 one-image a b small small' parts p q = sym (write-back a small parts p .1) ∙ write-back b small' parts q .1
