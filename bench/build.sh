@@ -10,6 +10,8 @@ rust="rustc -O -C overflow-checks=on --edition 2024"
 $rust bench/second/main.rs -o target/bench/second
 $rust bench/second/curve.rs -o target/bench/curve
 $rust bench/second/netlist.rs -o target/bench/netlist
+$rust bench/second/write.rs -o target/bench/write
+$rust bench/second/parts.rs -o target/bench/parts
 $rust bench/second/selftest.rs -o target/bench/selftest
 $rust --crate-type staticlib --crate-name second bench/second/lib.rs -o target/bench/libsecond.a
 cc -std=c11 -D_POSIX_C_SOURCE=199309L -Wall -Wextra -O3 -march=native bench/float/*.c -lm -o target/bench/float

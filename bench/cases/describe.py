@@ -1,13 +1,12 @@
 """Reads case files: circuits as part lists with their drives, and what is damaged. README.md has the notation.
 
-describe.py FILE OUT   writes OUT.image and OUT.drives of the one case in FILE
+The images that it makes are the bench's own: the proved writer must make the same bytes of their parts (bench/writing).
 """
 
 import math
 import pathlib
 import re
 import struct
-import sys
 
 KINDS = {"R": 1, "C": 2, "L": 3, "D": 4}
 
@@ -158,17 +157,3 @@ class Build:
         for kind in "image", "drives":
             if getattr(self, kind) is not None:
                 pathlib.Path(f"{path}.{kind}").write_bytes(getattr(self, kind))
-
-
-def main(file, out):
-    cases = read(pathlib.Path(file))
-    if len(cases) != 1:
-        sys.exit(f"{file} has {len(cases)} cases; one is wanted")
-    for lines in cases.values():
-        Build(lines).write(out)
-
-
-if __name__ == "__main__":
-    if len(sys.argv) != 3:
-        sys.exit(__doc__)
-    main(*sys.argv[1:])

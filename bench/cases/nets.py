@@ -8,5 +8,6 @@ import cases
 import texts
 
 if __name__ == "__main__":
-    nets = texts.Texts("netlist_main", "missing.net", (b"greatest ", b"refused "))
+    # Of no text an image is kept.
+    nets = texts.Texts("netlist_main", "missing.net", (b"greatest ", b"refused "), "-\n")
     cases.main(__doc__, nets.make, nets.check)

@@ -6,19 +6,19 @@ import cases
 
 
 class Texts:
-    """The texts of a crate. Lines of a case end with one that begins with one of the endings."""
+    """The texts of a crate. Lines of a case end with one that begins with one of the endings; `args` has some lines between two texts, or none."""
 
-    def __init__(self, crate, missing, endings):
+    def __init__(self, crate, missing, endings, between=""):
         self.crate = cases.HERE.parent.parent / "crates" / crate
         self.data, self.args, self.stdout = self.crate / "data", self.crate / "args", self.crate / "stdout"
-        self.missing, self.endings = missing, endings
+        self.missing, self.endings, self.between = missing, endings, between
 
     def names(self):
         """The texts in the order of their names, which begin with what they are about; last the one that is not there."""
         return [*sorted(path.name for path in self.data.iterdir()), self.missing]
 
     def arguments(self):
-        return "".join(f"{name}\n" for name in self.names())
+        return self.between.join(f"{name}\n" for name in self.names())
 
     def expected(self, name):
         """The words between `; expect` and a colon at a text's beginning, or None."""
@@ -37,11 +37,11 @@ class Texts:
             yield f"the lines of {name} are not what it expects"
 
     def check(self, program):
-        listed = self.args.read_text().split()
+        names = self.names()
         lines = cases.parted(self.stdout.read_bytes(), self.endings)
-        found = [words for name, own in zip(listed, lines) for words in self.complaints(program, name, own)]
-        if self.args.read_text() != self.arguments() or len(lines) != len(listed) or self.stdout.read_bytes() != b"".join(lines):
+        found = [words for name, own in zip(names, lines) for words in self.complaints(program, name, own)]
+        if self.args.read_text() != self.arguments() or len(lines) != len(names) or self.stdout.read_bytes() != b"".join(lines):
             found.append("args or stdout do not have the cases in their order")
         if cases.lines_of(program):
             found.append(f"{program[-1]} writes something without a file")
-        return cases.verdict(len(listed), found)
+        return cases.verdict(len(names), found)

@@ -3,7 +3,7 @@
 # bench/cases, of what a C program on this machine links.
 set -eu
 cd "$(dirname "$0")/../.."
-block=$(bench/native/block.sh)
+block=$(bench/native/linked.sh)
 bench/footprint/code.sh "$block"
 cc -O2 -Wall -Wextra -Iinclude bench/footprint/host.c "$block" -lpthread -o target/bench/footprint
 ls crates/render/data/*.image | sed 's/\.image$//' >target/bench/list

@@ -3,78 +3,11 @@
  * as it says and no longer, so that a sanitizer sees any access past it.
  *
  *     compare CALLS IMAGE .. */
-#include <stdio.h>
-#include <stdlib.h>
-#include <string.h>
-
 #include "krtovalin.h"
+#include "../random.h"
 #include "../second/second.h"
 
 #define NUMBERS (KRTOVALIN_REFUSED_STORED + 1)
-
-static uint64_t seed = 88172645463325252u;
-
-static uint64_t draw(void)
-{
-    seed ^= seed << 13;
-    seed ^= seed >> 7;
-    seed ^= seed << 17;
-    return seed;
-}
-
-static uint64_t below(uint64_t n)
-{
-    return draw() % n;
-}
-
-struct bytes {
-    uint8_t *at;
-    size_t length;
-};
-
-/* no bytes may be anywhere, and at null too */
-static struct bytes make(size_t length)
-{
-    struct bytes b = {length || below(2) ? malloc(length) : NULL, length};
-    if (length && !b.at)
-        exit(2);
-    return b;
-}
-
-/* the first so many bytes of some others */
-static struct bytes start(struct bytes from, size_t length)
-{
-    struct bytes b = make(length);
-    if (length)
-        memcpy(b.at, from.at, length);
-    return b;
-}
-
-static struct bytes copy(struct bytes from)
-{
-    return start(from, from.length);
-}
-
-static int alike(struct bytes one, struct bytes other)
-{
-    return one.length == 0 || memcmp(one.at, other.at, one.length) == 0;
-}
-
-static struct bytes load(const char *name)
-{
-    struct bytes b = make(1400);
-    FILE *file = fopen(name, "rb");
-    b.length = file ? fread(b.at, 1, b.length, file) : 0;
-    if (file)
-        fclose(file);
-    return b;
-}
-
-/* below that many; now and then none */
-static size_t some_length(size_t most)
-{
-    return below(20) ? below(most) : 0;
-}
 
 /* now and then bytes changed, or the end cut off */
 static struct bytes damaged(struct bytes from)
@@ -160,7 +93,7 @@ int main(int argc, char **argv)
     int images = argc - 2;
     unsigned long numbers[NUMBERS] = {0};
     for (unsigned long call = 0; call < calls; call++) {
-        struct bytes whole = load(argv[2 + below((uint64_t)images)]);
+        struct bytes whole = load(argv[2 + below((uint64_t)images)], 1400);
         struct bytes image = damaged(whole), state = some_state(), drives = some_drives(), outputs = make(some_length(80));
         put_half(image);
         uint64_t n = below(20) ? below(12) : draw() >> below(64);

@@ -1,13 +1,10 @@
 #!/bin/sh
 # test.sh [CALLS]: holds the proved block against the second program, from C: every case, random calls, and the examples.
-#
-# What is shipped is not compiled with a sanitizer, which then sees nothing of what the block itself reads and writes. So the random calls go twice: to what
-# is linked here, and to the same module with AddressSanitizer's tests at each access, over buffers of exact size.
 set -e
 cd "$(dirname "$0")/../.."
 calls=${1:-20000}
 bench/build.sh
-block=$(bench/native/block.sh)
+block=$(bench/native/linked.sh)
 second='target/bench/libsecond.a -lpthread -ldl'
 
 # A pointer whose length is 0 may be null, as the header says, since the module demands nothing of a pointer but that it is passed.
@@ -22,18 +19,11 @@ python3 bench/cases/cases.py check target/bench/krtovalin
 
 cc -O2 -Wall -Wextra -Iinclude bench/host/compare.c "$block" $second -lm -o target/bench/compare
 target/bench/compare "$calls" crates/render/data/*.image
-if echo 'int main(void) { return 0; }' | cc -fsanitize=address -x c - -o target/bench/probe 2>/dev/null && target/bench/probe; then
-    sed 's/^\(define .*\) #\([0-9]*\) {$/\1 sanitize_address #\2 {/' target/bench/block.ll >target/bench/watched.ll
-    bench/native/object.sh target/bench/watched.ll target/bench/watched.o -fsanitize=address
-    nm -u target/bench/watched.o | grep -q __asan_report_load || {
-        echo "nothing of the block is watched"
-        exit 1
-    }
-    cc -O2 -g -fsanitize=address -Wall -Wextra -Iinclude bench/host/compare.c target/bench/watched.o $second -lm -o target/bench/watched
+watched=$(bench/native/watched.sh target/bench/block.ll)
+if [ -n "$watched" ]; then
+    cc -O2 -g -fsanitize=address -Wall -Wextra -Iinclude bench/host/compare.c "$watched" $second -lm -o target/bench/watched
     # the block allocates nothing, and the search for leaks takes longer than thousands of calls
     ASAN_OPTIONS=detect_leaks=0 target/bench/watched "$calls" crates/render/data/*.image
-else
-    echo "AddressSanitizer is left out: no program runs with it here"
 fi
 
 # An example writes the same with the second program's block in place of the proved one.

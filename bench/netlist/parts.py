@@ -53,10 +53,16 @@ def report(image):
     return "".join(f"{line}\n" for line in lines)
 
 
+def case_of(example):
+    """The bench's case that an example says it is."""
+    case, = re.findall(r"^;.* case (\w+)\.$", example.read_text(), re.MULTILINE)
+    return case
+
+
 def complaints(program):
     known = cases.builds()
     for example in EXAMPLES:
-        case, = re.findall(r"^;.* case (\w+)\.$", example.read_text(), re.MULTILINE)
+        case = case_of(example)
         if cases.lines_of(program, example).decode() != report(known[case].image):
             yield f"{program[-1]} does not write the parts of case {case} for {example.name}"
 

@@ -24,12 +24,12 @@ outcomes() {
     done
 }
 values=$(python3 bench/netlist/values.py "$room/values")
-hold target/bench/netlist "$program" "$room/values" net "$values" 'greatest|refused'
+hold target/bench/netlist "$program" "$room/values" net "$values" 'greatest|refused' -
 cmp "$room/values/second" "$room/values/expected"
 echo "$values values: $(outcomes "$room/values"); the same lines from both, and Python's"
 
 texts=$(python3 bench/netlist/texts.py "$count" "$room/texts")
-hold target/bench/netlist "$program" "$room/texts" net "$texts" 'greatest|refused'
+hold target/bench/netlist "$program" "$room/texts" net "$texts" 'greatest|refused' -
 # The largest are the divider as it is, one byte too many, and a line that is missed after 65,535 others.
 {
     target/bench/netlist examples/divider.net

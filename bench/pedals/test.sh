@@ -3,4 +3,4 @@
 set -eu
 cd "$(dirname "$0")/../.."
 bench/build.sh
-bench/pedals/same.sh "$(bench/native/block.sh)" "${1:-30}" "${2:-1}" 1
+bench/pedals/same.sh "$(bench/native/linked.sh)" "${1:-30}" "${2:-1}" 1

@@ -4,9 +4,10 @@
 pub const MOST_ELEMENTS: usize = 32;
 pub const LEAK: i128 = 1;
 
+/// By the image's number for it.
 #[derive(Clone, Copy, PartialEq)]
 pub enum Kind {
-    Resistor,
+    Resistor = 1,
     Capacitor,
     Inductor,
     Diode,

@@ -3,6 +3,8 @@
 
 use crate::circuit::{self, Circuit, Curve, Header, Kind, Part};
 
+/// As many bytes may an image have.
+pub const LONGEST: usize = 1_360;
 const TRAILER: usize = 16;
 const RECORD: usize = 8;
 
@@ -76,9 +78,9 @@ fn part(bytes: &[u8]) -> Result<Part, u64> {
     Ok(Part { kind, p: bytes[1] as i128, q: bytes[2] as i128, curve: bytes[3] as i128, value: whole(&bytes[4..8]) })
 }
 
-/// The circuit that `image` describes, or the lowest number that refuses it.
-pub fn read(image: &[u8]) -> Result<Circuit, u64> {
-    if image.len() < 24 || image.len() > 1_360 {
+/// What `image` says of the whole circuit, its curves and its parts, or the lowest number that refuses them. What is left of 5, and 6, the circuit decides.
+pub fn fields(image: &[u8]) -> Result<(Header, Vec<Curve>, Vec<Part>), u64> {
+    if image.len() < 24 || image.len() > LONGEST {
         return Err(1);
     }
     let (body, end) = image.split_at(image.len() - TRAILER);
@@ -90,5 +92,11 @@ pub fn read(image: &[u8]) -> Result<Circuit, u64> {
     let pieces = split(curve_bytes, header.curves)?;
     let curves = pieces.into_iter().map(curve).collect::<Result<Vec<_>, _>>()?;
     let parts = records.chunks(RECORD).map(part).collect::<Result<Vec<_>, _>>()?;
+    Ok((header, curves, parts))
+}
+
+/// The circuit that `image` describes, or the lowest number that refuses it.
+pub fn read(image: &[u8]) -> Result<Circuit, u64> {
+    let (header, curves, parts) = fields(image)?;
     circuit::circuit(&header, curves, &parts)
 }

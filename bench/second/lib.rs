@@ -1,11 +1,21 @@
-//! The block for a host written in C.
+//! The block, and a netlist's image, for a host written in C.
 
 mod block;
 mod circuit;
+mod drawn;
 mod image;
 mod network;
+mod ohms;
+mod schematic;
 mod search;
 mod start;
+// What it writes is for programs alone.
+#[allow(dead_code)]
+mod words;
+mod writer;
+
+use drawn::Refusal;
+use schematic::Fault;
 
 /// A part of the host's memory; a length of zero may come with any pointer.
 unsafe fn lent<'a>(bytes: *const u8, length: usize) -> &'a [u8] {
@@ -37,4 +47,19 @@ pub unsafe extern "C" fn second_block(
     let (state, outputs) = unsafe { (lent_mut(state, state_length), lent_mut(outputs, outputs_length)) };
     let outcome = block::block(image, state, n, drives, outputs);
     outcome.number * 65_536 + outcome.count
+}
+
+/// Number x 2^32 + count.
+///
+/// # Safety
+/// As for `second_block`.
+#[unsafe(no_mangle)]
+pub unsafe extern "C" fn second_image(text: *const u8, text_length: usize, image: *mut u8, image_length: usize) -> u64 {
+    let (text, image) = unsafe { (lent(text, text_length), lent_mut(image, image_length)) };
+    let (number, count) = match drawn::read(text) {
+        Ok(drawn) => drawn.write(image).map_or_else(|number| (number, 0), |length| (0, length)),
+        Err(Refusal::Text(Fault { number, line })) => (number, line),
+        Err(Refusal::Parts(number)) => (number, 0),
+    };
+    (number << 32) + count as u64
 }

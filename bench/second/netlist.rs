@@ -1,46 +1,20 @@
-//! Reads each netlist that is named: the parts that it describes, and how far its voltages are to be trusted, or what refuses it.
+//! Reads netlists: of each two arguments the first names a text and the second a file for its image. Writes the parts that the text describes, and how far its
+//! voltages are to be trusted, or what refuses it.
 
 mod circuit;
+mod drawn;
+mod image;
 mod ohms;
 mod schematic;
 mod words;
+mod writer;
 
-use circuit::{Circuit, Curve, Element, Header, Kind, LEAK, Part};
-use schematic::{Fault, Netlist};
+use circuit::{Circuit, Element, Kind, LEAK, Part};
+use drawn::{Drawn, Refusal};
+use schematic::Fault;
+use std::fs;
 use std::io::{self, BufWriter, Write};
-
-enum Refusal {
-    Text(Fault),
-    Parts(u64),
-}
-
-/// A circuit with what it does not keep of its netlist.
-struct Drawn {
-    circuit: Circuit,
-    parts: Vec<Part>,
-    rate: i128,
-}
-
-/// A netlist as a circuit, by the rules for an image's parts; 3 is left for curves of a wrong size.
-fn judged(netlist: Netlist) -> Result<Drawn, u64> {
-    let Netlist { driven, output, rate, curves, parts } = netlist;
-    let nodes = parts.iter().flat_map(|part| [part.p, part.q]).fold(output, i128::max);
-    let header = Header { elements: parts.len(), curves: curves.len(), nodes, driven, rate, output };
-    if !header.fits() {
-        return Err(2);
-    }
-    if !curves.iter().all(|curve| (1..=16).contains(&curve.breakpoints.len())) {
-        return Err(3);
-    }
-    if !curves.iter().all(Curve::fits) {
-        return Err(4);
-    }
-    Ok(Drawn { circuit: circuit::circuit(&header, curves, &parts)?, parts, rate })
-}
-
-fn read(text: &[u8]) -> Result<Drawn, Refusal> {
-    judged(schematic::read(text).map_err(Refusal::Text)?).map_err(Refusal::Parts)
-}
+use std::path::Path;
 
 /// An element's line; a diode has a curve where the others have a value and a conductance.
 fn put_element(lines: &mut impl Write, part: &Part, element: &Element) -> io::Result<()> {
@@ -91,13 +65,41 @@ fn put(lines: &mut impl Write, drawn: &Drawn) -> io::Result<()> {
     writeln!(lines, "greatest {greatest}")
 }
 
+/// Gives the file these bytes, all of them; where that fails, it stays as it was, and so does what is no regular file.
+fn replace(file: &Path, bytes: &[u8]) -> io::Result<()> {
+    if fs::symlink_metadata(file).is_ok_and(|known| !known.is_file()) {
+        return Err(io::Error::other("not a regular file"));
+    }
+    let mut beside = file.as_os_str().to_owned();
+    beside.push(".part");
+    fs::write(&beside, bytes).and_then(|()| fs::rename(&beside, file)).inspect_err(|_| {
+        let _ = fs::remove_file(&beside);
+    })
+}
+
+/// Writes a circuit's image to the file, or says why it can't.
+fn keep(drawn: &Drawn, file: &Path) {
+    let mut image = [0; image::LONGEST];
+    let length = drawn.write(&mut image).expect("parts that were judged have an image");
+    if let Err(error) = replace(file, &image[..length]) {
+        eprintln!("{}: {error}", file.display());
+    }
+}
+
 fn main() -> io::Result<()> {
     let mut lines = BufWriter::new(io::stdout().lock());
-    for name in std::env::args_os().skip(1) {
+    let names: Vec<_> = std::env::args_os().skip(1).collect();
+    for pair in names.chunks(2) {
         // A file that can't be read counts as empty.
-        let text = std::fs::read(name).unwrap_or_default();
-        match read(&text) {
-            Ok(drawn) => put(&mut lines, &drawn)?,
+        let text = fs::read(&pair[0]).unwrap_or_default();
+        match drawn::read(&text) {
+            Ok(drawn) => {
+                put(&mut lines, &drawn)?;
+                // A text alone, or with `-`, is only shown.
+                if let Some(file) = pair.get(1).filter(|&name| name != "-") {
+                    keep(&drawn, Path::new(file));
+                }
+            }
             Err(Refusal::Text(Fault { number, line })) => writeln!(lines, "refused {number} line {line}")?,
             Err(Refusal::Parts(number)) => writeln!(lines, "refused {number}")?,
         }

@@ -1,16 +1,25 @@
-// Netlists from the schematic tool: the arguments name texts. Writes the parts that each text is, for
-// a person to check, or `refused R` with the line that is at fault. No contract can say what is read or
-// written, so this file is there to be read: what the lines are is promised by the crate report and by
-// `refusal::put`.
+// Netlists from the schematic tool: of each two arguments the first names a text, the second the file
+// for its image. Writes the parts that each text is, for a person to check, or `refused R` with the line
+// that is at fault; and the image of a text that is not refused, unless its file is `-` or not named. No
+// contract can say what is read or written, so this file and file.rt are there to be read: what the
+// lines are is promised by the crate report and by `refusal::put`, and what the image is by the crate
+// writing.
+mod file;
 mod refusal;
 
 use image::Parts;
+use libc::STDERR_FILENO;
 use libc::STDOUT_FILENO;
 use netlist::Verdict;
 ghost use mathlib.Core.Path.{_≡_};
+ghost use Prim.Native.Nat.{_≤_};
+ghost use lib.ListN.{length, take};
 ghost use Rattle.units.specs.declared.number.Number.the-variants.{Done};
+ghost use Rattle.io.specs.Counts.{Counts};
+ghost use Rattle.image.specs.Format.{longest};
 ghost use Rattle.image.specs.Judged.{judged};
 ghost use Rattle.image.specs.Sound.{Sound};
+ghost use Rattle.writing.specs.Image.{imageOf};
 
 // The curves, two lines each.
 fn write_curves(parts: Parts)
@@ -47,30 +56,64 @@ fn write_refusal(verdict: Verdict) {
     io::write_all(STDOUT_FILENO, &text[..end]);
 }
 
-// The report on the text that argument i names.
-fn report_on(i: usize) {
+// The image at the start of a buffer that has room for the longest, and how long it is.
+fn put_image(buffer: &mut [u8], parts: Parts) -> usize
+    requires { ⌜ (judged parts ≡ Done) × (longest ≤ length (now buffer)) ⌝ }
+    ensures { λ r. ⌜ Counts r (now (buffer .exit)) × (take r (now (buffer .exit)) ≡ imageOf parts) ⌝ }
+{
+    writing::write(parts, buffer).length
+}
+
+// The image into the file that argument i names, if one is wanted.
+fn write_image(parts: Parts, i: usize)
+    requires { ⌜ judged parts ≡ Done ⌝ }
+{
+    if os::arg_count() <= i {
+        return;
+    }
     let mut path = io::buffer();
     let named = os::arg(i, &mut path);
+    if named == 0 {
+        io::write_all(
+            STDERR_FILENO,
+            b"the name of an image is empty or too long\n",
+        );
+        return;
+    }
+    if named == 1 && path[0] == b'-' {
+        return;
+    }
+    let mut image = io::buffer();
+    let end = put_image(&mut image, parts);
+    file::replace(&path[..named], &image[..end]);
+}
+
+// The report on the text that one argument names, and its image into the file that another does.
+fn report_on(text: usize, image: usize) {
+    let mut path = io::buffer();
+    let named = os::arg(text, &mut path);
     // a descriptor below 0 is read as an empty file
     let file = os::open_read(&path[..named]);
     // longer than any text that is read
-    let mut text = io::large_buffer();
-    let n = io::read_full(file, &mut text);
+    let mut bytes = io::large_buffer();
+    let n = io::read_full(file, &mut bytes);
     libc::close(file);
-    let answer = netlist::read(&text[..n]);
+    let answer = netlist::read(&bytes[..n]);
     let verdict = answer.verdict;
     if netlist::number_of(verdict) == 0 {
         write_parts(answer.parts);
+        write_image(answer.parts, image);
     } else {
         write_refusal(verdict);
     }
 }
 
 fn main() {
-    let count = os::arg_count();
-    let mut i: usize = 1;
-    while i < count {
-        report_on(i);
-        i += 1;
+    // the program's own name is an argument too
+    let pairs = os::arg_count() / 2;
+    let mut j: usize = 0;
+    while j < pairs {
+        report_on(2 * j + 1, 2 * j + 2);
+        j += 1;
     }
 }

@@ -1,2 +1,3 @@
+pub mod CurveLaws
 pub mod NodeLaws
 pub mod TurnLaws

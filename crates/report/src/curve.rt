@@ -11,7 +11,7 @@ ghost use Rattle.console.specs.Text.{Adds};
 ghost use Rattle.report.specs.Curve.{spaced, spacedAll, slopeNumber, curveLines};
 
 // A space and a number.
-fn put_spaced(text: &mut [u8], at: usize, z: i64) -> usize
+pub fn put_spaced(text: &mut [u8], at: usize, z: i64) -> usize
     requires { ⌜ at + 22 ≤ length (now text) ⌝ }
     ensures { λ r. ⌜ Adds (spaced z) 22 at (now (text .entry)) r (now (text .exit)) ⌝ }
 {
@@ -20,7 +20,7 @@ fn put_spaced(text: &mut [u8], at: usize, z: i64) -> usize
 }
 
 // A slope as a number with a sign.
-fn whole_slope(slope: u32) -> i64
+pub fn whole_slope(slope: u32) -> i64
     ensures { λ r. ⌜ r ≡ pos slope ⌝ }
 {
     slope as i64

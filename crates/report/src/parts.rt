@@ -34,7 +34,7 @@ fn put_size_numbers(text: &mut [u8], at: usize, parts: Parts) -> usize
 }
 
 // A kind's letter.
-fn letter(kind: u8) -> u8
+pub fn letter(kind: u8) -> u8
     ensures { λ r. ⌜ r ≡ letter kind ⌝ }
 {
     let k = kind as u64;

@@ -4,10 +4,10 @@ use Rattle.netlist_main.proofs.main.Statement.{statement}
 use Rattle.netlist_main.proofs.main.Tie as tie
 
 abbrev Inv-loop : tie.InvT-loop
-Inv-loop count i₀ i = 1 ≤ i
+Inv-loop pairs j₀ j = j ≤ pairs
 
 abbrev μ-loop : tie.MeasureT-loop
-μ-loop count i₀ i = count - i
+μ-loop pairs j₀ j = pairs - j
 
 arg-count-requires : tie.Need-arg-count-requires Inv-loop μ-loop
 arg-count-requires c κs = search needs
@@ -15,11 +15,23 @@ arg-count-requires c κs = search needs
 loop-holds : tie.Need-loop-holds Inv-loop μ-loop
 loop-holds c = search needs
 
+mul-report-on : tie.Need-mul-report-on Inv-loop μ-loop
+mul-report-on c = search needs
+
+add-report-on : tie.Need-add-report-on Inv-loop μ-loop
+add-report-on c = search needs
+
+mul-report-on-2 : tie.Need-mul-report-on-2 Inv-loop μ-loop
+mul-report-on-2 c = search needs
+
+add-report-on-2 : tie.Need-add-report-on-2 Inv-loop μ-loop
+add-report-on-2 c = search needs
+
 report-on-requires : tie.Need-report-on-requires Inv-loop μ-loop
 report-on-requires c κs = search needs
 
-add-i : tie.Need-add-i Inv-loop μ-loop
-add-i c = search needs
+add-j : tie.Need-add-j Inv-loop μ-loop
+add-j c = search needs
 
 loop-less : tie.Need-loop-less Inv-loop μ-loop
 loop-less c = search needs
@@ -38,8 +50,12 @@ main-spec =
     μ-loop
     arg-count-requires
     loop-holds
+    mul-report-on
+    add-report-on
+    mul-report-on-2
+    add-report-on-2
     report-on-requires
-    add-i
+    add-j
     loop-less
     loop-again
     returns)

@@ -34,8 +34,8 @@ read-full-requires c κs = search needs
 close-requires : tie.Need-close-requires
 close-requires c κs = search needs
 
-array-share-prefix-text : tie.Need-array-share-prefix-text
-array-share-prefix-text c = search needs
+array-share-prefix-bytes : tie.Need-array-share-prefix-bytes
+array-share-prefix-bytes c = search needs
 
 slice-aggregate-read : tie.Need-slice-aggregate-read
 slice-aggregate-read c = search needs
@@ -48,6 +48,9 @@ number-of-requires c κs = search needs
 
 write-parts-requires : tie.Need-write-parts-requires
 write-parts-requires c κs = accepted-judged _ (c .before .before .read .ensures) (sym (c .before .number-of .ensures) ∙ c .if1 .taken)
+
+write-image-requires : tie.Need-write-image-requires
+write-image-requires c κs = accepted-judged _ (c .before .before .before .read .ensures) (sym (c .before .before .number-of .ensures) ∙ c .before .if1 .taken)
 
 write-refusal-requires : tie.Need-write-refusal-requires
 write-refusal-requires c κs = search needs
@@ -72,11 +75,12 @@ report-on-spec =
     slice-aggregate-read-full
     read-full-requires
     close-requires
-    array-share-prefix-text
+    array-share-prefix-bytes
     slice-aggregate-read
     read-requires
     number-of-requires
     write-parts-requires
+    write-image-requires
     write-refusal-requires
     returns
     returns-2)

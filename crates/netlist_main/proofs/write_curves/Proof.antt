@@ -1,23 +1,10 @@
-use mathlib.Core.Path.{refl}
-use mathlib.Core.List.{[]}
-use Prim.Native.Nat.{ℕ, _-_, _≤_, _<_}
+use Prim.Native.Nat.{_-_, _≤_}
 use native.Mathlib.Omega.{arith}
-use lib.ListN.{getD, length-take}
-use Rattle.units.proofs.Tables.{getD-alike, tabulate-length}
-use Rattle.network.specs.Network.{reading, breakpointCountLimit}
-use Rattle.image.specs.Parts.{noCurve, curveOf, breakpointsOf}
-use Rattle.image.specs.Sound.{Sound}
-use Rattle.image.specs.declared.parts.Curve.{Curve}
-use Rattle.image.specs.declared.parts.Parts.{Parts}
-use Rattle.image.proofs.Places.{curve-there}
+use lib.ListN.{length-take}
+use Rattle.report.proofs.CurveLaws.{curve-few}
 use borrow.Author.Needs.{needs}
 use Rattle.netlist_main.proofs.write_curves.Statement.{statement}
 use Rattle.netlist_main.proofs.write_curves.Tie as tie
-
--- no curve has more breakpoints than there is room for
-curve-few : (parts : Parts) (k : ℕ) → Sound parts → k < parts .«curve_count» → getD (parts .curves) k noCurve .count ≤ breakpointCountLimit
-unfolding breakpointsOf
-curve-few parts k sound h = rw (← curve-there parts k h) (omega (arith, sound .curves k h .few, tabulate-length (reading (curveOf parts k .breakpoints)) (curveOf parts k .count)))
 
 abbrev Inv-loop : tie.InvT-loop
 Inv-loop curves n k₀ k = k ≤ n
@@ -45,9 +32,8 @@ array-copy-out-put-curve c = search needs
 
 put-curve-requires : tie.Need-put-curve-requires Inv-loop μ-loop
 put-curve-requires c κs =
-    let parts = c .before .before .before .before .before .before .before .args .parts in
-    let k = c .before .before .before .before .loop .k in
-    (rw (getD-alike (λ (c : Curve). c .count) (parts .curves) k (record { count = 0; slopes = []; breakpoints = [] }) noCurve refl) (curve-few parts k (c .before .before .before .before .before .before .before .pre) (c .before .before .before .loop-test .taken)), search needs)
+    let s = c .before .before .before .before .before .before .before in
+    (curve-few (s .args .parts) (c .before .before .before .before .loop .k) (s .pre) (c .before .before .before .loop-test .taken), search needs)
 
 array-share-prefix-text : tie.Need-array-share-prefix-text Inv-loop μ-loop
 array-share-prefix-text c = search needs

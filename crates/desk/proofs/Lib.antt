@@ -1,0 +1,5 @@
+pub mod Counts
+pub mod DrawnLaws
+pub mod Promise
+pub mod Widths
+pub mod Means

@@ -1,0 +1,30 @@
+-- What the call answers for a text and a lent buffer, and what stands in the buffer afterwards. Assumes nothing.
+use mathlib.Core.Path.{_≡_}
+use mathlib.Core.Bool.{cond}
+use mathlib.Core.List.{List}
+use Prim.Native.Nat.{ℕ, _+_, _*_, _<_}
+use lib.Dec.{eqb}
+use lib.ListN.{length}
+use Rattle.netlist.specs.Answer.{numberOf, lineOf, Answers}
+use Rattle.netlist.specs.declared.reader.Answer.{Answer}
+use Rattle.writing.specs.Writes.{answerFor, lengthBeside, bufferBeside}
+
+-- number and count come as one: number × 2^32 + count
+abbrev pub numberUnit : ℕ
+numberUnit = 4294967296
+
+-- the number is the reader's; where that is 0, it is the writer's for the parts and a buffer of so many bytes
+unfoldable pub numberFor : Answer → (room : ℕ) → ℕ
+numberFor a room = cond (eqb (numberOf (a .verdict)) 0) (answerFor (a .parts) room) (numberOf (a .verdict))
+
+-- the count is the line that the reader names, or 0; where its number is 0, the image's length beside the writer's 0, and 0 beside 16
+unfoldable pub countFor : Answer → (room : ℕ) → ℕ
+countFor a room = cond (eqb (numberOf (a .verdict)) 0) (lengthBeside (answerFor (a .parts) room) (a .parts)) (lineOf (a .verdict))
+
+-- the promise: of the answer for the text, number and count as one, which can be taken apart again, and the buffer with the image in front beside 0, as it was beside any other number
+pub record Drawn (text before : List ℕ) (r : ℕ) (after : List ℕ) : Type 0 where
+  pub answer : Answer
+  pub answers : Answers text answer
+  pub packed : r ≡ numberFor answer (length before) * numberUnit + countFor answer (length before)
+  pub small : countFor answer (length before) < numberUnit
+  pub buffer : after ≡ bufferBeside (numberFor answer (length before)) (answer .parts) before

@@ -1,0 +1,3 @@
+pub mod Answer
+pub mod Named
+pub mod Netlist
