@@ -7,7 +7,7 @@ import sys
 
 BENCH = pathlib.Path(__file__).parent.parent
 sys.path.insert(0, str(BENCH / "writing"))
-import drawn
+import random_parts
 import record
 
 WRITE = BENCH.parent / "target" / "bench" / "write"
@@ -16,7 +16,7 @@ WRITE = BENCH.parent / "target" / "bench" / "write"
 def main(count, folder, seed=1):
     folder, dice = pathlib.Path(folder), random.Random(int(seed))
     folder.mkdir()
-    found = [drawn.accepted(dice) for _ in range(int(count))]
+    found = [random_parts.accepted(dice) for _ in range(int(count))]
     rooms = [record.length(parts) for parts in found]
     records = folder / "records.raw"
     records.write_bytes(b"".join(map(record.packed, found, rooms)))

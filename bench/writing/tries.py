@@ -7,9 +7,9 @@ each field of one byte, and every edge of each wider one; and COUNT random parts
 
 import random
 
-import drawn
 import fields
 import limits
+import random_parts
 import record
 from record import Try
 
@@ -34,7 +34,7 @@ def of_cases(dice, found):
     for name, image in found.items():
         parts, room = record.read(image), dice.randint(len(image), record.LONGEST_BUFFER)
         yield Try(name, parts, len(image), 0, image)
-        yield Try(f"{name} with anything past its counts", drawn.past_counts(dice, parts), room, 0, image)
+        yield Try(f"{name} with anything past its counts", random_parts.past_counts(dice, parts), room, 0, image)
 
 
 def of_lengths(image):
@@ -56,12 +56,12 @@ def at_an_end(path):
 
 def anything(dice):
     """Random parts and a buffer."""
-    parts = drawn.accepted(dice)
+    parts = random_parts.accepted(dice)
     length = record.length(parts)
     room = dice.choice((length, length, length - 1, length + 1, 0, dice.randint(0, record.LONGEST_BUFFER)))
     if dice.random() < 0.5:
-        return Try("random parts", drawn.past_counts(dice, drawn.broken(dice, parts)), room)
-    return Try("random parts that are accepted", drawn.past_counts(dice, parts), room, fitting(room, length))
+        return Try("random parts", random_parts.past_counts(dice, random_parts.broken(dice, parts)), room)
+    return Try("random parts that are accepted", random_parts.past_counts(dice, parts), room, fitting(room, length))
 
 
 def tries(count, seed=1):

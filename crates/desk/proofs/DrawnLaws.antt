@@ -14,13 +14,13 @@ use Rattle.writing.specs.Image.{imageOf}
 use Rattle.writing.specs.Writes.{answerFor, lengthBeside, Writes}
 use Rattle.writing.specs.declared.writer.Written.{Written}
 use Rattle.writing.proofs.Longest.{image-short}
-use Rattle.desk.specs.Drawn.{numberUnit, numberFor, countFor, Drawn}
+use Rattle.desk.specs.Drawn.{numberUnit, callNumber, callCount, Drawn}
 use Rattle.desk.proofs.Counts.{line-small}
 
 module _ (text before : List ℕ) (a : Answer) (answers : Answers text a) where
   -- a text that is refused leaves the buffer as it was
   pub drawn-refused : {n line r : ℕ} → n ≡ numberOf (a .verdict) → line ≡ lineOf (a .verdict) → (n ≡ 0 → ⊥) → r ≡ n * numberUnit + line → Drawn text before r before
-  unfolding numberFor countFor
+  unfolding callNumber callCount
   drawn-refused number named some packed =
       let no = ne-eqb (numberOf (a .verdict)) 0 (λ e. some (number ∙ e)) in
       record {
@@ -41,7 +41,7 @@ module _ (text before : List ℕ) (a : Answer) (answers : Answers text a) where
 
   -- one that passes is answered as the writer does
   pub drawn-written : numberOf (a .verdict) ≡ 0 → {w : Written} {after : List ℕ} {r : ℕ} → Writes (a .parts) before w after → r ≡ w .number * numberUnit + w .length → Drawn text before r after
-  unfolding numberFor countFor
+  unfolding callNumber callCount
   drawn-written e writes packed =
       let yes = eq-eqb (numberOf (a .verdict)) 0 e in
       record {

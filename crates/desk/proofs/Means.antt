@@ -20,7 +20,7 @@ use Rattle.writing.specs.Image.{imageOf}
 use Rattle.writing.specs.Reached.{reached}
 use Rattle.writing.specs.Writes.{answerFor, bufferBeside}
 use Rattle.writing.proofs.Promise.{read-back, same-network}
-use Rattle.desk.specs.Drawn.{numberUnit, numberFor, countFor, Drawn}
+use Rattle.desk.specs.Drawn.{numberUnit, callNumber, callCount, Drawn}
 use Rattle.desk.proofs.Widths.{in-widths}
 
 module _ (text : List ℕ) {a : Answer} (answers : Answers text a) (accepted : numberOf (a .verdict) ≡ 0) where
@@ -35,12 +35,12 @@ module _ (text before : List ℕ) (r : ℕ) (after : List ℕ) (drawn : Drawn te
   abbrev a : Answer
   a = drawn .answer
 
-  number-0 : numberFor a (length before) ≡ 0
+  number-0 : callNumber a (length before) ≡ 0
   number-0 = omega (arith, drawn .packed)
 
   -- the netlist is accepted, and the first r bytes of the buffer are the image of its parts
   pub drawn-accepted : numberOf (a .verdict) ≡ 0
-  unfolding numberFor
+  unfolding callNumber
   drawn-accepted = go (eqb (numberOf (a .verdict)) 0) refl
     where
       go : (t : Bool) → eqb (numberOf (a .verdict)) 0 ≡ t → numberOf (a .verdict) ≡ 0
@@ -48,16 +48,16 @@ module _ (text before : List ℕ) (r : ℕ) (after : List ℕ) (drawn : Drawn te
       go false e = rw e at number-0
 
   writer-0 : answerFor (a .parts) (length before) ≡ 0
-  unfolding numberFor
+  unfolding callNumber
   writer-0 = rw drawn-accepted at number-0
 
-  count-is : countFor a (length before) ≡ length (imageOf (a .parts))
-  unfolding countFor
+  count-is : callCount a (length before) ≡ length (imageOf (a .parts))
+  unfolding callCount
   count-is = rw (drawn-accepted, writer-0)
 
   pub drawn-image : take r after ≡ imageOf (a .parts)
   drawn-image =
       let image = imageOf (a .parts) in
       let long : r ≡ length image = omega (arith, drawn .packed, number-0, count-is) in
-      let bytes : bufferBeside (numberFor a (length before)) (a .parts) before ≡ image ++ drop (length image) before = rw number-0 in
+      let bytes : bufferBeside (callNumber a (length before)) (a .parts) before ≡ image ++ drop (length image) before = rw number-0 in
       ap (λ (n : ℕ). take n after) long ∙ ap (λ (l : List ℕ). take (length image) l) (drawn .buffer ∙ bytes) ∙ take-append-seam image (drop (length image) before)

@@ -14,17 +14,17 @@ abbrev pub numberUnit : ℕ
 numberUnit = 4294967296
 
 -- the number is the reader's; where that is 0, it is the writer's for the parts and a buffer of so many bytes
-unfoldable pub numberFor : Answer → (room : ℕ) → ℕ
-numberFor a room = cond (eqb (numberOf (a .verdict)) 0) (answerFor (a .parts) room) (numberOf (a .verdict))
+unfoldable pub callNumber : Answer → (room : ℕ) → ℕ
+callNumber a room = cond (eqb (numberOf (a .verdict)) 0) (answerFor (a .parts) room) (numberOf (a .verdict))
 
 -- the count is the line that the reader names, or 0; where its number is 0, the image's length beside the writer's 0, and 0 beside 16
-unfoldable pub countFor : Answer → (room : ℕ) → ℕ
-countFor a room = cond (eqb (numberOf (a .verdict)) 0) (lengthBeside (answerFor (a .parts) room) (a .parts)) (lineOf (a .verdict))
+unfoldable pub callCount : Answer → (room : ℕ) → ℕ
+callCount a room = cond (eqb (numberOf (a .verdict)) 0) (lengthBeside (answerFor (a .parts) room) (a .parts)) (lineOf (a .verdict))
 
 -- the promise: of the answer for the text, number and count as one, which can be taken apart again, and the buffer with the image in front beside 0, as it was beside any other number
 pub record Drawn (text before : List ℕ) (r : ℕ) (after : List ℕ) : Type 0 where
   pub answer : Answer
   pub answers : Answers text answer
-  pub packed : r ≡ numberFor answer (length before) * numberUnit + countFor answer (length before)
-  pub small : countFor answer (length before) < numberUnit
-  pub buffer : after ≡ bufferBeside (numberFor answer (length before)) (answer .parts) before
+  pub packed : r ≡ callNumber answer (length before) * numberUnit + callCount answer (length before)
+  pub small : callCount answer (length before) < numberUnit
+  pub buffer : after ≡ bufferBeside (callNumber answer (length before)) (answer .parts) before
