@@ -15,7 +15,7 @@ ghost use Rattle.image.specs.Curve.{curveBytes, curveLength, slopeOf, br
 ghost use Rattle.image.specs.Asked.{CurveThere};
 
 // How many bytes a curve of m breakpoints has.
-fn curve_length(m: usize) -> usize
+pub fn curve_length(m: usize) -> usize
     requires { ⌜ m < 256 ⌝ }
     ensures { λ r. ⌜ r ≡ curveLength m ⌝ }
 {

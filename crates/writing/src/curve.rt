@@ -39,7 +39,7 @@ fn put_breakpoints(buffer: &mut [u8], at: usize, breakpoints: [i32; 16], n: usiz
 fn curve_length(c: Curve) -> usize
     ensures { λ r. ⌜ (r ≡ length (curveBytes c)) × (r ≡ curveLength (c .count)) ⌝ }
 {
-    8 + 8 * (c.count as usize)
+    image::curve_length(c.count as usize)
 }
 
 fn put_curve(buffer: &mut [u8], at: usize, c: Curve)

@@ -10,9 +10,6 @@ ghost use Rattle.network.specs.Network.{branchLimit};
 ghost use Rattle.image.specs.Format.{elementSize};
 ghost use Rattle.writing.specs.Image.{elementBytes, elementsBytes};
 
-// Bytes of an element.
-pub const SIZE: usize = 8;
-
 fn put_element(buffer: &mut [u8], at: usize, e: Element)
     requires { ⌜ at + elementSize ≤ length (now buffer) ⌝ }
     ensures { λ _. ⌜ now (buffer .exit) ≡ overlaid (now (buffer .entry)) at (elementBytes e) ⌝ }
@@ -33,7 +30,7 @@ pub fn put_elements(buffer: &mut [u8], parts: Parts)
     let n = parts.element_count as usize;
     let mut j: usize = 0;
     while j < n {
-        put_element(buffer, SIZE * j, elements[j]);
+        put_element(buffer, image::ELEMENT * j, elements[j]);
         j += 1;
     }
 }

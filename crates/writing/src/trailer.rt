@@ -8,9 +8,6 @@ ghost use Rattle.units.specs.Table.{overlaid};
 ghost use Rattle.image.specs.Format.{trailerSize};
 ghost use Rattle.writing.specs.Image.{trailerBytes};
 
-// Bytes of the trailer.
-pub const SIZE: usize = 16;
-
 // The trailer at a place, with its distances back to the first element and to the first curve.
 pub fn put_trailer(buffer: &mut [u8], at: usize, elements: usize, curves: usize, parts: Parts)
     requires { ⌜ at + trailerSize ≤ length (now buffer) ⌝ }
@@ -25,5 +22,5 @@ pub fn put_trailer(buffer: &mut [u8], at: usize, elements: usize, curves: usize,
     bytes::put_u32(buffer, at + 8, parts.rate as u64);
     buffer[at + 12] = parts.output;
     buffer[at + 13] = parts.version;
-    bytes::put_u16(buffer, at + 14, SIZE as u64);
+    bytes::put_u16(buffer, at + 14, image::TRAILER as u64);
 }

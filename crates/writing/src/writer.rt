@@ -31,10 +31,10 @@ pub fn write(parts: Parts, buffer: &mut [u8]) -> Written
     if broken != 0 {
         return refused(broken);
     }
-    let first = element::SIZE * (parts.element_count as usize);
+    let first = image::ELEMENT * (parts.element_count as usize);
     let curves = curve::curves_length(parts);
     let before = first + curves;
-    if buffer.len() < before + trailer::SIZE {
+    if buffer.len() < before + image::TRAILER {
         return refused(SHORT);
     }
     element::put_elements(buffer, parts);
@@ -42,6 +42,6 @@ pub fn write(parts: Parts, buffer: &mut [u8]) -> Written
     trailer::put_trailer(buffer, before, before, curves, parts);
     Written {
         number: 0,
-        length: before + trailer::SIZE,
+        length: before + image::TRAILER,
     }
 }
