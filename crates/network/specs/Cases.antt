@@ -1,6 +1,6 @@
--- Document 01's bench cases that are marked P, as one table: 14 samples, and the two B. Assumes nothing.
--- The networks are those that the named images mean: 1000 ohm is 1,000,000 nS, 10,000 pF at 48,000 Hz is 960,000 nS, the leak is 1 nS. Each
--- has one free node, the one after the driven ones.
+-- Document 01's bench cases that are marked P, as one table: 14 samples, and the two B; and two samples with the leak of document 02's request 6. Assumes nothing.
+-- The networks are those that the named images mean: 1000 ohm is 1,000,000 nS, 10,000 pF at 48,000 Hz is 960,000 nS, the leak is 1 nS, or
+-- 10 nS where the image is of version 2. Each has one free node, the one after the driven ones.
 use mathlib.Core.Path.{_≡_}
 use mathlib.Core.List.{List, [], _∷_, _++_}
 use Prim.Native.Nat.{ℕ, suc}
@@ -12,11 +12,12 @@ use Rattle.network.specs.Sample.{Outcome, accepted, railRefused, answerO
 use Rattle.network.specs.Bound.{LeastEnough}
 
 pub record Circuit : Type 0 where
+  pub leak : ℕ
   pub driven : ℕ
   pub branches : List Branch
 
 abbrev pub networkOf : Circuit → Network
-networkOf c = record { leak = 1; nodes = suc (c .driven); driven = c .driven; count = length (c .branches); branch = λ (j : ℕ). getD (c .branches) j noBranch }
+networkOf c = record { leak = c .leak; nodes = suc (c .driven); driven = c .driven; count = length (c .branches); branch = λ (j : ℕ). getD (c .branches) j noBranch }
 
 -- what document 01 says: the free node's voltage and the stored currents after the sample, or the rail
 pub data Result : Type 0 where
@@ -52,19 +53,23 @@ part p q law store = record { p = p; q = q; law = law; store = store }
 
 -- 1000 ohm from 1 to 2, 1000 ohm from 2 to ground
 abbrev pub divider : Circuit
-divider = record { driven = 1; branches = part 1 2 (conductance 1_000_000) nothing ∷ part 2 0 (conductance 1_000_000) nothing ∷ [] }
+divider = record { leak = 1; driven = 1; branches = part 1 2 (conductance 1_000_000) nothing ∷ part 2 0 (conductance 1_000_000) nothing ∷ [] }
 
 -- 1000 ohm from 1 to 2, 10,000 pF from 2 to ground
 abbrev pub lowPass : Circuit
-lowPass = record { driven = 1; branches = part 1 2 (conductance 1_000_000) nothing ∷ part 2 0 (conductance 960_000) capacitor ∷ [] }
+lowPass = record { leak = 1; driven = 1; branches = part 1 2 (conductance 1_000_000) nothing ∷ part 2 0 (conductance 960_000) capacitor ∷ [] }
 
 -- 1000 ohm from 1 to 2, a diode from 2 to ground
 abbrev pub clipper : Circuit
-clipper = record { driven = 1; branches = part 1 2 (conductance 1_000_000) nothing ∷ part 2 0 (curve (0 ∷ 10_000_000 ∷ []) (pos 600_000 ∷ [])) nothing ∷ [] }
+clipper = record { leak = 1; driven = 1; branches = part 1 2 (conductance 1_000_000) nothing ∷ part 2 0 (curve (0 ∷ 10_000_000 ∷ []) (pos 600_000 ∷ [])) nothing ∷ [] }
 
 -- 10,000 pF alone on a free node
 abbrev pub lone : Circuit
-lone = record { driven = 0; branches = part 1 0 (conductance 960_000) capacitor ∷ [] }
+lone = record { leak = 1; driven = 0; branches = part 1 0 (conductance 960_000) capacitor ∷ [] }
+
+-- the divider as version 2 has it
+abbrev pub stiffDivider : Circuit
+stiffDivider = record { leak = 10; driven = divider .driven; branches = divider .branches }
 
 -- ---- the table
 
@@ -83,6 +88,8 @@ cases =
     ∷ plain divider (pos 1_000_000) (pos 499_999)
     ∷ plain divider (minus 1_000_000) (minus 500_000)
     ∷ bound divider 1
+    ∷ plain stiffDivider (pos 1_000_000) (pos 499_997)
+    ∷ plain stiffDivider (minus 1_000_000) (minus 499_998)
     ∷ sample lowPass [] (pos 1_000_000 ∷ []) 0 (settles (pos 510_203) (pos 0 ∷ pos 979_589_760_000 ∷ []))
     ∷ sample lowPass (pos 0 ∷ pos 979_589_760_000 ∷ []) (pos 1_000_000 ∷ []) 0 (settles (pos 1_009_994) (pos 0 ∷ pos 959_598_720_000 ∷ []))
     ∷ plain clipper (pos 1_000_000) (pos 636_363)
