@@ -1,9 +1,10 @@
 /* Turns a netlist into its image, as a tool on a desk would:
  *
- *     image NETLIST IMAGE
+ *     image NETLIST IMAGE [VERSION]
  *
- * A refusal is told by its number, and by its line where it has one, and writes no file. */
+ * The image is of version 2 unless VERSION says 1. A refusal is told by its number, and by its line where it has one, and writes no file. */
 #include <stdio.h>
+#include <stdlib.h>
 
 #include "krtovalin_image.h"
 
@@ -17,13 +18,21 @@ static int keep(const char *name, const uint8_t *bytes, size_t length)
     return fclose(file) == 0 && whole;
 }
 
+/* A version as a number; 0, which is refused, where it is none or too large for one. */
+static uint32_t version_of(const char *word)
+{
+    char *end;
+    unsigned long version = strtoul(word, &end, 10);
+    return *end || version > UINT32_MAX ? 0 : (uint32_t)version;
+}
+
 int main(int words, char **word)
 {
     /* one byte more than a text may have, by which a longer one is told */
     static uint8_t text[KRTOVALIN_IMAGE_TEXT_MOST + 1];
     uint8_t image[KRTOVALIN_IMAGE_MOST];
-    if (words != 3) {
-        fprintf(stderr, "usage: image NETLIST IMAGE\n");
+    if (words != 3 && words != 4) {
+        fprintf(stderr, "usage: image NETLIST IMAGE [VERSION]\n");
         return 1;
     }
     FILE *file = fopen(word[1], "rb");
@@ -34,7 +43,8 @@ int main(int words, char **word)
     }
     fclose(file);
 
-    uint64_t answer = krtovalin_image(text, length, image, sizeof image);
+    uint64_t answer = words == 3 ? krtovalin_image(text, length, image, sizeof image)
+                                 : krtovalin_image_version(version_of(word[3]), text, length, image, sizeof image);
     unsigned number = KRTOVALIN_IMAGE_NUMBER(answer), count = KRTOVALIN_IMAGE_COUNT(answer);
     switch (number) {
     case KRTOVALIN_IMAGE_DONE:

@@ -8,9 +8,12 @@
  * currents of that sample: the voltages are the highest whole microvolts at which no free node's net current is above zero, never above
  * any other solution, and below it by less than B microvolts, which the program `bound` computes from an image; B is small only where
  * every free node is well held by ground and driven nodes. No bound is promised on the drift over a run, in which stored currents
- * differ too. And the network is not the circuit on a bench: every node leaks 1 nS to
+ * differ too. And the network is not the circuit on a bench: every free node leaks 1 nS or 10 nS to
  * ground, conductances are whole nanosiemens, curves are straight between breakpoints, and the trapezoidal rule answers an edge with
  * voltages that zigzag from sample to sample. README.md has examples.
+ *
+ * Images of versions 1 and 2 are played, and any other is refused by 2. They differ in the leak alone, which every free node has to ground:
+ * 1 nS in version 1, and 10 nS in version 2, for inputs of high impedance, which hum on the smaller one.
  *
  * A conductance is the nearest whole number of nanosiemens, halves upward: at most half a nanosiemens from the part's. Earlier builds of
  * this library took the next whole number below, so that an element whose conductance had a fraction of a half or more has 1 nS more here
@@ -41,7 +44,7 @@
 extern "C" {
 #endif
 
-/* The version of this interface, raised by each change that a host has to follow. */
+/* The version of this interface, raised by each change that a host has to follow. An image has a version of its own. */
 #define KRTOVALIN_VERSION 1
 
 /* The length of a state: 32 stored currents, an int64_t each, little-endian, in femtoamperes. A fresh state is all zeros. */
@@ -58,7 +61,7 @@ extern "C" {
 enum krtovalin_number {
     KRTOVALIN_DONE = 0,                /* all n samples were played; the count is n */
     KRTOVALIN_REFUSED_LENGTH = 1,      /* the image is shorter than 24 or longer than 1,360 bytes */
-    KRTOVALIN_REFUSED_TRAILER = 2,     /* a field of the image's trailer other than its distances is outside its range */
+    KRTOVALIN_REFUSED_TRAILER = 2,     /* a field of the image's trailer other than its distances is outside its range, the version (1 or 2) among them */
     KRTOVALIN_REFUSED_SIZES = 3,       /* a distance, a length or a curve's size does not fit exactly */
     KRTOVALIN_REFUSED_CURVE = 4,       /* a curve's padding, slope or breakpoint */
     KRTOVALIN_REFUSED_ELEMENT = 5,     /* an element's field */

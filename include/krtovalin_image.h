@@ -3,14 +3,19 @@
  * For a tool on a desk, which reads a schematic and hands a pedal the image that krtovalin_block plays (krtovalin.h). A pedal's firmware
  * does not need it.
  *
- * One function. It keeps no memory of its own: no heap, no globals, no locks, so that it may be called from any number of
+ * Two functions. They keep no memory of their own: no heap, no globals, no locks, so that they may be called from any number of
  * threads at once, each with its own buffers. No pointer needs any alignment. The two buffers must not overlap. A pointer whose length
  * is 0 may be null.
  *
  * README.md, "From a schematic to sound", has the notation of a netlist. What the image means is what the netlist says: its
- * parts in their order, by the rules that krtovalin_block tests, so that it refuses no such image by 1 to 6.
+ * parts in their order, by the rules that the krtovalin_block of the same build tests, so that it refuses no such image by 1 to 6.
  *
- * Stack, measured over the netlists of the examples and of crates/netlist_main: 12,128 bytes on x86-64, at 16 open brackets. Allow 16 KiB.
+ * An image has a version, 1 or 2. In version 2 every free node has a leak of 10 nS to ground in place of version 1's 1 nS, for inputs of high
+ * impedance, which hum on the smaller one; nothing else differs. A netlist can't say its version: krtovalin_image writes version 2, and
+ * krtovalin_image_version the one that it is given. Earlier builds of this library wrote version 1, and a block (krtovalin.h) that was built
+ * before version 2 refuses its images by 2: ask for version 1 for pedals with such a block, and where a circuit has to sound as it did.
+ *
+ * Stack, measured over the netlists of the examples and of crates/netlist_main: 14,064 bytes on x86-64, at 16 open brackets. Allow 16 KiB.
  */
 #ifndef KRTOVALIN_IMAGE_H
 #define KRTOVALIN_IMAGE_H
@@ -34,7 +39,7 @@ extern "C" {
 /* An answer's number, and what its count is beside it. */
 enum krtovalin_image_number {
     KRTOVALIN_IMAGE_DONE = 0,                 /* the image was written; the count is its length */
-    KRTOVALIN_IMAGE_REFUSED_HEADER = 2,       /* how many elements, curves and nodes there are, the drives, the output or the rate; the count is 0, as for 3 to 6 */
+    KRTOVALIN_IMAGE_REFUSED_HEADER = 2,       /* how many elements, curves and nodes there are, the drives, the output or the rate, or a version that is not 1 or 2; the count is 0, as for 3 to 6 */
     KRTOVALIN_IMAGE_REFUSED_SIZE = 3,         /* a curve has no breakpoint, or more than 16 */
     KRTOVALIN_IMAGE_REFUSED_CURVE = 4,        /* a curve's slope or breakpoint */
     KRTOVALIN_IMAGE_REFUSED_ELEMENT = 5,      /* an element's nodes or its curve */
@@ -44,7 +49,7 @@ enum krtovalin_image_number {
     KRTOVALIN_IMAGE_REFUSED_BUFFER = 16       /* the buffer is shorter than the image; the count is 0 */
 };
 
-/* Writes the image of the netlist in `text` to the start of `image`.
+/* Writes the image of the netlist in `text`, in version 2, to the start of `image`.
  *
  * text   any bytes whatever.
  * image  as many bytes as there are; those past the image keep their contents, and beside any number but 0 all of them do.
@@ -53,6 +58,13 @@ enum krtovalin_image_number {
  */
 uint64_t krtovalin_image(const uint8_t *text, uint64_t text_len,
                          uint8_t *image, uint64_t image_len);
+
+/* The same in the version that is given. What stands against the text is told first, whatever the version is; then a version other than 1
+ * and 2 is refused by 2, and last a buffer that is too short.
+ */
+uint64_t krtovalin_image_version(uint32_t version,
+                                 const uint8_t *text, uint64_t text_len,
+                                 uint8_t *image, uint64_t image_len);
 
 #ifdef __cplusplus
 }

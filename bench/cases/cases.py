@@ -17,18 +17,18 @@ CRATE = HERE.parent.parent / "crates" / "render"
 DATA = CRATE / "data"
 NAMES = CRATE / "args"
 LINES = CRATE / "stdout"
-FILES = "document", "limits", "refusals", "files", "circuits", "rounding", "stretches"
+FILES = "document", "limits", "refusals", "files", "circuits", "rounding", "stretches", "versions"
 
 
 def builds():
-    """Every case, by name."""
-    found = {}
+    """Every case, by name. A file's cases may be like those of the files before it."""
+    known = {}
     for file in FILES:
-        for name, lines in describe.read(HERE / f"{file}.txt").items():
-            if name in found:
-                raise ValueError(f"two cases {name}")
-            found[name] = describe.Build(lines)
-    return found
+        found = describe.read(HERE / f"{file}.txt", known)
+        if twice := known.keys() & found.keys():
+            raise ValueError(f"two cases {' '.join(sorted(twice))}")
+        known |= found
+    return {name: describe.Build(lines) for name, lines in known.items()}
 
 
 def contents(path):

@@ -47,7 +47,7 @@ class Build:
     """Goes through a case's lines; `image` and `drives` are then its files' bytes, or None for a file that is not there."""
 
     def __init__(self, lines):
-        self.fields = {"rate": 48000, "drives": 1, "out": 1, "nodes": 0}
+        self.fields = {"rate": 48000, "drives": 1, "out": 1, "nodes": 0, "version": 1}
         self.knobs, self.curves, self.used = {}, {}, []
         self.elements, self.sources = [], []
         self.samples, self.after = 0, []
@@ -112,7 +112,7 @@ class Build:
             body += struct.pack(f"<{len(slopes)}I", *slopes) + struct.pack(f"<{len(breakpoints)}i", *breakpoints)
         counts = len(self.elements), len(self.used), self.fields["nodes"], self.fields["drives"]
         return body + struct.pack("<2H4BI2BH", len(body), len(body) - start, *counts,
-                                  self.fields["rate"], self.fields["out"], 1, 16)
+                                  self.fields["rate"], self.fields["out"], self.fields["version"], 16)
 
     def play(self):
         lists = [len(numbers) for _, shape, numbers in self.sources if shape == "list"]

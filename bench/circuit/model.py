@@ -22,6 +22,7 @@ class Circuit:
         if not self.ok:
             return
         trailer = layout.trailer(image)
+        self.leak = layout.leak(trailer.version)
         self.nodes, self.driven = trailer.nodes, trailer.driven
         self.curves = [(c.slopes, c.points) for c in layout.curves(image)]
         self.elements = [(e.kind, e.p, e.q, e.curve, layout.conductance(e, trailer.rate)) for e in layout.elements(image)]
@@ -42,16 +43,16 @@ class Circuit:
         return g * v - (stored[j] if kind in (2, 3) else 0)
 
     def net(self, i, volts, stored):
-        total = volts[i]
+        total = self.leak * volts[i]
         for j, (_, p, q, _, _) in enumerate(self.elements):
             total += self.flow(j, volts, stored) * ((p == i) - (q == i))
         return total
 
     def held(self, i):
-        return 1 + sum(g for kind, p, q, _, g in self.elements if kind != 4 and i in (p, q) and (p + q - i) <= self.driven)
+        return self.leak + sum(g for kind, p, q, _, g in self.elements if kind != 4 and i in (p, q) and (p + q - i) <= self.driven)
 
     def steepest(self, i):
-        return 1 + sum(max(self.curves[k][0]) if kind == 4 else g for kind, p, q, k, g in self.elements if i in (p, q))
+        return self.leak + sum(max(self.curves[k][0]) if kind == 4 else g for kind, p, q, k, g in self.elements if i in (p, q))
 
     def bound(self, e):
         free = range(self.driven + 1, self.nodes + 1)

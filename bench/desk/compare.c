@@ -1,6 +1,6 @@
-/* Holds the proved krtovalin_image against the second program's: each netlist with a buffer of every length up to past its image's, between bytes that must stay; then
- * random calls on the netlists, whole and damaged. The answer and every byte of the buffer must agree, and what is not written must be as it was. In random calls
- * each buffer is as long as it says and no longer, so that a sanitizer sees any access past it.
+/* Holds the proved krtovalin_image and krtovalin_image_version against the second program's: each netlist with a buffer of every length up to past its image's, between
+ * bytes that must stay; then random calls on the netlists, whole and damaged, in versions that there are and that there are not. The answer and every byte of the buffer
+ * must agree, and what is not written must be as it was. In random calls each buffer is as long as it says and no longer, so that a sanitizer sees any access past it.
  *
  *     compare CALLS NETLIST .. */
 #include "krtovalin_image.h"
@@ -24,40 +24,62 @@ static struct bytes noise(size_t length)
     return b;
 }
 
-static void stop(struct bytes text, struct bytes image, const char *why)
+/* Where no version is given, it is this one. */
+#define UNLESS_GIVEN 2
+
+/* The version of a call that is given none. */
+#define NONE (-1)
+
+static uint64_t proved(int64_t version, struct bytes text, struct bytes image)
 {
-    printf("%s, for a buffer of %lu bytes and this text of %lu:\n", why, (unsigned long)image.length, (unsigned long)text.length);
+    if (version == NONE)
+        return krtovalin_image(text.at, text.length, image.at, image.length);
+    return krtovalin_image_version((uint32_t)version, text.at, text.length, image.at, image.length);
+}
+
+static uint64_t second(int64_t version, struct bytes text, struct bytes image)
+{
+    if (version == NONE)
+        return second_image(text.at, text.length, image.at, image.length);
+    return second_image_version((uint32_t)version, text.at, text.length, image.at, image.length);
+}
+
+static void stop(int64_t version, struct bytes text, struct bytes image, const char *why)
+{
+    printf("%s, for version %ld (%d is none), a buffer of %lu bytes and this text of %lu:\n", why, (long)version, NONE, (unsigned long)image.length,
+           (unsigned long)text.length);
     fwrite(text.at, 1, text.length, stdout);
     exit(1);
 }
 
-/* The answer of both, to a text and a buffer. */
-static uint64_t answered(struct bytes text, struct bytes image)
+/* The answer of both, to a version, a text and a buffer. */
+static uint64_t answered(int64_t version, struct bytes text, struct bytes image)
 {
-    struct bytes before = copy(image), other = copy(image);
-    uint64_t a = krtovalin_image(text.at, text.length, image.at, image.length);
-    uint64_t b = second_image(text.at, text.length, other.at, other.length);
+    struct bytes before = copy(image), other = copy(image), again = copy(image);
+    uint64_t a = proved(version, text, image), b = second(version, text, other);
     if (a != b || !alike(image, other))
-        stop(text, image, a == b ? "the buffers differ" : "the answers differ");
+        stop(version, text, image, a == b ? "the buffers differ" : "the answers differ");
+    if (version == NONE && (proved(UNLESS_GIVEN, text, again) != a || !alike(image, again)))
+        stop(version, text, image, "the version that is written unless one is given is another");
     size_t written = KRTOVALIN_IMAGE_NUMBER(a) == KRTOVALIN_IMAGE_DONE ? KRTOVALIN_IMAGE_COUNT(a) : 0;
     if (written > image.length || (written < image.length && memcmp(image.at + written, before.at + written, image.length - written)))
-        stop(text, image, "bytes past the image were written");
+        stop(version, text, image, "bytes past the image were written");
     numbers[KRTOVALIN_IMAGE_NUMBER(a) < NUMBERS ? KRTOVALIN_IMAGE_NUMBER(a) : 0]++;
-    free(before.at), free(other.at);
+    free(before.at), free(other.at), free(again.at);
     return a;
 }
 
 /* Buffers of every length, from none to some bytes more than the image has. */
-static void sweep(struct bytes text)
+static void sweep(int64_t version, struct bytes text)
 {
     struct bytes enough = noise(KRTOVALIN_IMAGE_MOST);
-    uint64_t answer = answered(text, enough);
+    uint64_t answer = answered(version, text, enough);
     size_t most = (KRTOVALIN_IMAGE_NUMBER(answer) == KRTOVALIN_IMAGE_DONE ? KRTOVALIN_IMAGE_COUNT(answer) : 0) + 8;
     for (size_t length = 0; length <= most; length++) {
         struct bytes field = noise(AROUND + length + AROUND), before = copy(field), image = {field.at + AROUND, length};
-        answered(text, image);
+        answered(version, text, image);
         if (memcmp(field.at, before.at, AROUND) || memcmp(image.at + length, before.at + AROUND + length, AROUND))
-            stop(text, image, "bytes around the buffer were written");
+            stop(version, text, image, "bytes around the buffer were written");
         free(field.at), free(before.at);
     }
     free(enough.at);
@@ -118,19 +140,27 @@ static struct bytes damaged(struct bytes text, struct bytes other)
     return b;
 }
 
+/* mostly one that there is, or none; the others would be such a one if they were cut to fewer bits, or are next to one */
+static int64_t some_version(void)
+{
+    static const int64_t known[] = {NONE, 1, 2}, other[] = {0, 3, 255, 256, 257, 258, 65537, UINT32_MAX};
+    return below(5) ? known[below(3)] : other[below(sizeof other / sizeof *other)];
+}
+
 int main(int argc, char **argv)
 {
     unsigned long calls = argc > 2 ? strtoul(argv[1], NULL, 10) : 0;
     uint64_t texts = argc > 2 ? (uint64_t)argc - 2 : 0;
     for (uint64_t i = 0; i < texts; i++) {
         struct bytes text = load(argv[2 + i], LONGEST);
-        sweep(text);
+        sweep(NONE, text);
+        sweep(1, text);
         free(text.at);
     }
     for (unsigned long call = 0; call < calls; call++) {
         struct bytes whole = load(argv[2 + below(texts)], LONGEST), other = load(argv[2 + below(texts)], LONGEST);
         struct bytes text = damaged(whole, other), image = noise(below(3) ? KRTOVALIN_IMAGE_MOST - 1 + below(3) : some_length(400));
-        answered(text, image);
+        answered(some_version(), text, image);
         free(whole.at), free(other.at), free(text.at), free(image.at);
     }
     printf("%lu random calls agree, and %llu texts with buffers of every length; by number:", calls, (unsigned long long)texts);

@@ -46,6 +46,7 @@ void circuit_read(struct circuit *circuit, const uint8_t *image, size_t length)
 {
     const uint8_t *trailer = image + length - 16;
     const uint8_t *records = trailer - whole(trailer, 2), *curves = trailer - whole(trailer + 2, 2);
+    circuit->leak = trailer[13] == 1 ? 1 : 10;
     circuit->elements = trailer[4];
     circuit->nodes = trailer[6];
     circuit->driven = trailer[7];

@@ -24,6 +24,7 @@ struct element {
 };
 
 struct circuit {
+    double leak; /* of every free node */
     int nodes, driven, output, elements;
     struct element element[MOST_ELEMENTS];
     struct curve curve[MOST_CURVES];

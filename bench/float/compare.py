@@ -1,8 +1,8 @@
-"""Holds the f64 simulator against the second program's lines: compare.py PROGRAM prints the largest distance in each real circuit, and how far the
-simulator that keeps its inverse is from the textbook's, which rounding alone may make.
+"""Holds the f64 simulator against the second program's lines: compare.py PROGRAM prints the largest distance in each real circuit and each case of
+versions.txt that is not refused, and how far the simulator that keeps its inverse is from the textbook's, which rounding alone may make.
 
 Whole microvolts are cut downward at each node and the cut is stored, so the two drift apart by up to some millivolts. Across stiff links,
-where a knob at its end leaves 1 ohm, whole microvolts cannot follow the real circuit, and the distance is shown but not judged.
+where a knob at its end leaves 1 ohm or a curve is as steep, whole microvolts cannot follow the real circuit, and the distance is shown but not judged.
 """
 
 import pathlib
@@ -13,7 +13,8 @@ CASES = pathlib.Path(__file__).parent.parent / "cases"
 sys.path.insert(0, str(CASES))
 import cases
 
-STIFF = {"stiff_link", "tone_treble_0", "tone_treble_1", "tone_volume_1", "tone_all_1"}
+FILES = "circuits", "versions"
+STIFF = {"stiff_link", "tone_treble_0", "tone_treble_1", "tone_volume_1", "tone_all_1", "version_2_image_1360"}
 LIMIT, ROUNDING = 6000, 0.01
 
 
@@ -28,16 +29,19 @@ def distance(one, other):
 
 
 def main(program):
-    circuits = (CASES / "circuits.txt").read_text().splitlines()
+    known = [line for file in FILES for line in (CASES / f"{file}.txt").read_text().splitlines()]
     lines = cases.expected()
     failed = False
-    for name in (line.split()[1] for line in circuits if line.startswith("case ")):
+    for name in (line.split()[1] for line in known if line.startswith("case ")):
+        *outputs, end = lines[name].splitlines()
+        if not end.startswith(b"end "):
+            continue
         textbook = volts(program, name)
-        apart = distance(textbook, [int(line) for line in lines[name].splitlines()[:-1]])
+        apart = distance(textbook, [int(line) for line in outputs])
         rounded = distance(textbook, volts(program, name, "--kept"))
         judged = name not in STIFF
         failed |= judged and apart > LIMIT or rounded > ROUNDING
-        print(f"{name:24} {apart:12.1f} microvolts, kept {rounded:.6f}{'' if judged else '   stiff'}")
+        print(f"{name:30} {apart:12.1f} microvolts, kept {rounded:.6f}{'' if judged else '   stiff'}")
     return 1 if failed else 0
 
 

@@ -3,7 +3,7 @@
 #include <math.h>
 #include <string.h>
 
-static const double LEAK = 1, REST = 1e-3; /* nanosiemens; a nanovolt */
+static const double REST = 1e-3; /* a nanovolt */
 enum { MOST_ROUNDS = 100 };
 
 static int row_of(const struct simulation *simulation, int node)
@@ -33,7 +33,7 @@ void simulation_start(struct simulation *simulation, const struct circuit *circu
     simulation->free = circuit->nodes - circuit->driven;
     simulation->width = (simulation->free + LANES) / LANES * LANES;
     for (int i = 0; i < simulation->free; i++)
-        simulation->matrix[i][i] = LEAK;
+        simulation->matrix[i][i] = circuit->leak;
     for (int i = 0; i < circuit->elements; i++) {
         const struct element *element = &circuit->element[i];
         int p = element->p, q = element->q, row_p = row_of(simulation, p), row_q = row_of(simulation, q);

@@ -1,6 +1,6 @@
-/* Holds the proved block against the second program's: random calls on the cases' images, whole, damaged and with conductances at their
- * halves, with states, lengths and drives of all kinds; the answer and every byte of state and outputs must agree. Each buffer is as long
- * as it says and no longer, so that a sanitizer sees any access past it.
+/* Holds the proved block against the second program's: random calls on the cases' images, whole, damaged, with conductances at their
+ * halves and in another version, with states, lengths and drives of all kinds; the answer and every byte of state and outputs must agree.
+ * Each buffer is as long as it says and no longer, so that a sanitizer sees any access past it.
  *
  *     compare CALLS IMAGE .. */
 #include "krtovalin.h"
@@ -56,6 +56,25 @@ static void put_half(struct bytes image)
         put(trailer + 8, rate, 4);
 }
 
+/* where an image has its version, before its last u16 */
+static uint8_t *version(struct bytes image)
+{
+    return image.length < 3 ? NULL : image.at + image.length - 3;
+}
+
+/* in half of the calls one of the two versions, whatever the case's is; now and then neither of them */
+static void put_version(struct bytes image)
+{
+    static const uint8_t neither[] = {0, 3, 255};
+    uint8_t *at = version(image);
+    if (!at)
+        return;
+    if (below(2))
+        *at = (uint8_t)(1 + below(2));
+    else if (below(20) == 0)
+        *at = neither[below(sizeof neither)];
+}
+
 /* mostly zero; else small numbers, the limit and numbers past it, or noise */
 static struct bytes some_state(void)
 {
@@ -91,11 +110,12 @@ int main(int argc, char **argv)
 {
     unsigned long calls = argc > 2 ? strtoul(argv[1], NULL, 10) : 0;
     int images = argc - 2;
-    unsigned long numbers[NUMBERS] = {0};
+    unsigned long numbers[NUMBERS] = {0}, in_version_2 = 0;
     for (unsigned long call = 0; call < calls; call++) {
         struct bytes whole = load(argv[2 + below((uint64_t)images)], 1400);
         struct bytes image = damaged(whole), state = some_state(), drives = some_drives(), outputs = make(some_length(80));
         put_half(image);
+        put_version(image);
         uint64_t n = below(20) ? below(12) : draw() >> below(64);
         for (size_t i = 0; i < outputs.length; i++)
             outputs.at[i] = (uint8_t)draw();
@@ -109,9 +129,14 @@ int main(int argc, char **argv)
             return 1;
         }
         numbers[KRTOVALIN_NUMBER(a) < NUMBERS ? KRTOVALIN_NUMBER(a) : 0]++;
+        in_version_2 += KRTOVALIN_NUMBER(a) == KRTOVALIN_DONE && *version(image) == 2;
         free(whole.at), free(image.at), free(state.at), free(drives.at), free(outputs.at), free(state2.at), free(outputs2.at);
     }
-    printf("%lu calls agree; by number:", calls);
+    if (calls >= 1000 && !in_version_2) {
+        printf("none of %lu calls was done in version 2\n", calls);
+        return 1;
+    }
+    printf("%lu calls agree, %lu of them done in version 2; by number:", calls, in_version_2);
     for (int i = 0; i < NUMBERS; i++)
         printf(" %lu", numbers[i]);
     printf("\n");

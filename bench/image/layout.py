@@ -7,10 +7,16 @@ Trailer = namedtuple('Trailer', 'elements_back curves_back elements curves nodes
 Element = namedtuple('Element', 'kind p q curve value')
 Curve = namedtuple('Curve', 'at padding slopes points')
 RESISTOR, CAPACITOR, INDUCTOR, DIODE = 1, 2, 3, 4
+VERSIONS = 1, 2
 
 
 def trailer(image):
     return Trailer(*struct.unpack(TRAILER, image[-16:]))
+
+
+def in_version(image, version):
+    """The same image but for its version, the third byte from its end."""
+    return image[:-3] + bytes([version]) + image[-2:]
 
 
 def elements(image):
@@ -30,6 +36,11 @@ def curves(image):
     return found if at == end else None
 
 
+def leak(version):
+    """Of every free node, in nanosiemens: document 01's in version 1, and since then document 02's."""
+    return 1 if version == 1 else 10
+
+
 def nearest(a, b):
     """a / b to the nearest whole number, halves upward."""
     return (2 * a + b) // (2 * b)
@@ -44,7 +55,7 @@ def conductance(e, rate):
 
 def trailer_fits(t):
     counts = 1 <= t.elements <= 32 and t.curves <= 8 and 1 <= t.nodes <= 15 and t.driven <= t.nodes
-    return counts and 8000 <= t.rate <= 192000 and 1 <= t.output <= t.nodes and t.version == 1 and t.size == 16
+    return counts and 8000 <= t.rate <= 192000 and 1 <= t.output <= t.nodes and t.version in VERSIONS and t.size == 16
 
 
 def curve_fits(c):

@@ -7,7 +7,7 @@ import re
 import struct
 import sys
 
-from layout import CAPACITOR, DIODE, ELEMENT, INDUCTOR, RESISTOR, TRAILER, conductance, curves, elements, number, trailer
+from layout import CAPACITOR, DIODE, ELEMENT, INDUCTOR, RESISTOR, TRAILER, conductance, curves, elements, leak, number, trailer
 
 
 def packed(elements, curves, nodes, driven, rate, output, end=None):
@@ -40,7 +40,7 @@ def circuit(label, image):
     n, t = number(image), trailer(image)
     if n:
         return print(label, '%d:' % n, 0, 0, 0, 0, 0)
-    print(label, '0:', 1, t.nodes, t.driven, t.output, t.elements)
+    print(label, '0:', leak(t.version), t.nodes, t.driven, t.output, t.elements)
     for e in elements(image):
         print('element', e.kind, e.p, e.q, conductance(e, t.rate), e.curve)
     for c in curves(image):
@@ -99,6 +99,7 @@ def main(folder):
     circuit('mixed', MIXED)
     circuit('smallest', SMALLEST)
     circuit('largest', LARGEST)
+    circuit('version 2', changed(EXAMPLE, 29, b'\2'))
     circuit('refused', changed(EXAMPLE, 20, b'\0'))
     for label, image in ('example', EXAMPLE), ('mixed', MIXED):
         print(label, 'cut to 0, 1, ..:', *(number(image[:n]) for n in range(len(image))), 'and whole', number(image))

@@ -1,8 +1,9 @@
 """Holds what a program prints of the netlists in examples/ against the bench's cases: parts.py PROGRAM..
 
-Each of them says which case it is, and its lines must be those of the case's image. PROGRAM may be of several words.
+Each of them says which case it is, and its lines must be those of the case's image, in each version. PROGRAM may be of several words.
 """
 
+import itertools
 import pathlib
 import re
 import sys
@@ -13,6 +14,8 @@ import cases
 import layout
 
 EXAMPLES = sorted((BENCH.parent / "examples").glob("*.net"))
+# By what stands in front of a text the version of what is shown.
+FRONTS = {(): 2, ("-1",): 1, ("-2",): 2}
 LETTERS = {layout.RESISTOR: "R", layout.CAPACITOR: "C", layout.INDUCTOR: "L", layout.DIODE: "D"}
 
 
@@ -26,7 +29,7 @@ def element_line(element, rate):
 def bound(image, node):
     """A node's held conductance, its steepest sum, and the least B for e = 0."""
     trailer, curves = layout.trailer(image), layout.curves(image)
-    held = steepest = 1
+    held = steepest = layout.leak(trailer.version)
     for element in layout.elements(image):
         if node not in (element.p, element.q):
             continue
@@ -61,10 +64,10 @@ def case_of(example):
 
 def complaints(program):
     known = cases.builds()
-    for example in EXAMPLES:
+    for example, (front, version) in itertools.product(EXAMPLES, FRONTS.items()):
         case = case_of(example)
-        if cases.lines_of(program, example).decode() != report(known[case].image):
-            yield f"{program[-1]} does not write the parts of case {case} for {example.name}"
+        if cases.lines_of(program, *front, example).decode() != report(layout.in_version(known[case].image, version)):
+            yield f"{program[-1]} does not write the parts of case {case} in version {version} for {' '.join((*front, example.name))}"
 
 
 if __name__ == "__main__":

@@ -1,6 +1,6 @@
 #!/bin/sh
 # test.sh [COUNT]: holds the proved program `netlist` against the second one, and every byte of their lines is compared: on the examples, which must be the bench's
-# cases; on a resistor with every short value and with long ones, of which Python says too what they come to; on the largest texts, on a small one with every byte
+# cases, in each version; on versions that are refused, in front of texts that are and texts that are not; on a resistor with every short value and with long ones, of which Python says too what they come to; on the largest texts, on a small one with every byte
 # everywhere, and on random ones, 5,000 unless said.
 # PROGRAM names another program to be held against it.
 set -e
@@ -15,6 +15,30 @@ mkdir -p "$room/values" "$room/texts"
 for one in target/bench/netlist "$program"; do
     python3 bench/netlist/parts.py $one
 done
+
+# A version is looked at where nothing else refuses the text. Some of these would be 1 or 2 if they were cut to fewer bits.
+refused=
+for name in value_suffix value_zero rate_0 curve_17 curve_slope_past node_self conductance_past_ohms; do
+    refused="$refused crates/netlist_main/data/$name.net -"
+done
+own=$(target/bench/netlist $refused)
+words=
+{
+    for version in 0 3 10 255 256 257 258 65537 4294967298 18446744073709551617 "$(printf '9%.0s' $(seq 100))"; do
+        words="$words -$version examples/divider.net - $refused"
+        printf 'refused 2\n%s\n' "$own"
+    done
+    # The last one before a text counts, for it and all texts after it, and is a number, with zeros in front or not.
+    words="$words -3 -0001 examples/divider.net - $refused examples/stiff_link.net - -2 examples/divider.net"
+    target/bench/netlist -1 examples/divider.net
+    echo "$own"
+    target/bench/netlist -1 examples/stiff_link.net
+    target/bench/netlist examples/divider.net
+} >"$room/versions"
+for one in target/bench/netlist "$program"; do
+    $one $words | cmp - "$room/versions"
+done
+echo "refused versions in front of accepted and of refused texts: the same lines from both"
 
 # The outcomes of a folder's texts in words.
 outcomes() {

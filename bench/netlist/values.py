@@ -53,7 +53,7 @@ def worth(node):
 
 @functools.cache
 def resistor(ohms):
-    return parts.report(describe.Build([["out", "2"], ["R1", "1", "2", str(ohms)]]).image)
+    return parts.report(describe.Build([["version", "2"], ["out", "2"], ["R1", "1", "2", str(ohms)]]).image)
 
 
 def expected(text):

@@ -1,6 +1,6 @@
 """What must come back of images that `parts` writes as netlists and `netlist` reads: back.py IMAGE..
 
-For each image that a netlist can say the lines of `netlist`; after all of these, for each other image the one line that `parts` writes.
+For each image that a netlist can say the lines of `netlist` in the image's version; after all of these, for each other image the one line that `parts` writes.
 """
 
 import pathlib

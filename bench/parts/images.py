@@ -1,4 +1,6 @@
-"""Random images that are accepted, as the second program writes them: images.py COUNT FOLDER [SEED] writes them to FOLDER, and their names to standard output."""
+"""Random images that are accepted, of both versions, as the second program writes them: images.py COUNT FOLDER [SEED] writes them to FOLDER, and their names to standard
+output.
+"""
 
 import pathlib
 import random
@@ -17,9 +19,9 @@ def main(count, folder, seed=1):
     folder, dice = pathlib.Path(folder), random.Random(int(seed))
     folder.mkdir()
     found = [random_parts.accepted(dice) for _ in range(int(count))]
-    rooms = [record.length(parts) for parts in found]
+    rooms, versions = [record.length(parts) for parts in found], [dice.choice(record.VERSIONS) for _ in found]
     records = folder / "records.raw"
-    records.write_bytes(b"".join(map(record.packed, found, rooms)))
+    records.write_bytes(b"".join(map(record.packed, found, rooms, versions)))
     answers = subprocess.run([WRITE, records], stdout=subprocess.PIPE, check=True).stdout
     for place, answer in enumerate(record.answers(answers, rooms)):
         image = folder / f"{place}.image"

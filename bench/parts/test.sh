@@ -1,7 +1,7 @@
 #!/bin/sh
 # test.sh [COUNT]: holds the proved program `parts` against the second one on every image of the bench and of its own crate, and on random ones, 500 unless said; every byte of
-# their lines is compared. Then `netlist` reads the texts back, the second one and the proved one, and must find the parts that Python finds in the images, and write the
-# same images.
+# their lines is compared. Then `netlist` reads the texts back, each in the version that its comment says, the second one and the proved one, and must find the parts that
+# Python finds in the images, and write the same images.
 # PROGRAM and NETLIST name other programs to be held against them.
 set -e
 cd "$(dirname "$0")/../.."
@@ -21,13 +21,13 @@ for image in $images; do
     text=$room/$i.net
     target/bench/parts "$image" >"$text"
     cat "$text" >>"$room/second"
-    case $(cat "$text") in
-    drives*)
+    version=$(sed -n '1s/^; version //p' "$text")
+    if [ -n "$version" ]; then
         cp "$image" "$room/$i.image"
-        pairs="$pairs $text $room/$i.back"
-        ;;
-    *) cat "$text" >>"$room/reasons" ;;
-    esac
+        pairs="$pairs -$version $text $room/$i.back"
+    else
+        cat "$text" >>"$room/reasons"
+    fi
     i=$((i + 1))
 done
 $program $images >"$room/other"
@@ -48,4 +48,4 @@ python3 bench/parts/back.py $images >"$room/expected"
 for one in target/bench/netlist "$netlist"; do
     round_trip "$one"
 done
-echo "$(count drives) netlists are read back to their images by both"
+echo "$(count drives) netlists, $(grep -cx '; version 2' "$room/second") of them of version 2, are read back to their images by both"

@@ -217,6 +217,8 @@ def text(dice, samples):
     if pedal.driven == 2:
         # A battery, or another signal.
         yield from ["drive 2 step 9000000 0"] if dice.random() < 0.5 else sines(dice, 2)
+    # Last, so that all else of a pedal is what it was when there was but one version.
+    yield f"version {dice.choice((1, 2))}"
 
 
 def main(count, folder, seed=1, samples=SAMPLES):

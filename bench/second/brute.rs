@@ -24,6 +24,7 @@ struct Part {
 
 #[derive(Default)]
 struct Reference {
+    version: u8,
     nodes: usize,
     driven: usize,
     parts: Vec<Part>,
@@ -98,8 +99,13 @@ impl Part {
 }
 
 impl Reference {
+    /// Of every free node, in nanosiemens.
+    fn leak(&self) -> i64 {
+        [1, 10][self.version as usize - 1]
+    }
+
     fn net(&self, at: usize, node: &[i64], stored: &[i64]) -> i64 {
-        let mut sum = node[at];
+        let mut sum = self.leak() * node[at];
         for (part, &x) in self.parts.iter().zip(stored) {
             let current = part.current(node[part.p] - node[part.q], x);
             sum += if part.p == at { current } else { 0 };
@@ -198,14 +204,14 @@ impl Reference {
         bytes.extend(((body - records) as u16).to_le_bytes());
         bytes.extend(counts);
         bytes.extend(RATE.to_le_bytes());
-        bytes.extend([self.nodes as u8, 1, 16, 0]);
+        bytes.extend([self.nodes as u8, self.version, 16, 0]);
         bytes
     }
 
-    /// A circuit of `free` free nodes, its curves bent within `width` microvolts.
+    /// A circuit of either version and of `free` free nodes, its curves bent within `width` microvolts.
     fn random(dice: &mut Dice, free: usize, parts: &Parts, width: i64) -> Reference {
         let driven = dice.roll(0, 2) as usize;
-        let mut made = Reference { nodes: driven + free, driven, parts: Vec::new() };
+        let mut made = Reference { version: dice.roll(1, 2) as u8, nodes: driven + free, driven, parts: Vec::new() };
         let mut curves = 0;
         for _ in 0..dice.roll(1, 3 * free as i64 + 2) {
             let p = dice.roll(0, made.nodes as i64) as usize;

@@ -2,7 +2,6 @@
 //! Fields are as wide as they come, so that a number of any length is judged for what it is.
 
 pub const MOST_ELEMENTS: usize = 32;
-pub const LEAK: i128 = 1;
 
 /// By the image's number for it.
 #[derive(Clone, Copy, PartialEq)]
@@ -15,6 +14,7 @@ pub enum Kind {
 
 /// What is said of the circuit as a whole.
 pub struct Header {
+    pub version: i128,
     pub elements: usize,
     pub curves: usize,
     pub nodes: i128,
@@ -48,6 +48,8 @@ pub struct Curve {
 }
 
 pub struct Circuit {
+    /// Of every free node to ground, in nanosiemens.
+    pub leak: i128,
     pub nodes: usize,
     pub driven: usize,
     pub output: usize,
@@ -56,9 +58,10 @@ pub struct Circuit {
 }
 
 impl Header {
-    /// The rule of number 2.
+    /// The rule of number 2. Document 01 has version 1 alone, and document 02's sixth request lets version 2 in.
     pub fn fits(&self) -> bool {
-        (1..=MOST_ELEMENTS).contains(&self.elements)
+        (1..=2).contains(&self.version)
+            && (1..=MOST_ELEMENTS).contains(&self.elements)
             && self.curves <= 8
             && (1..=15).contains(&self.nodes)
             && (0..=self.nodes).contains(&self.driven)
@@ -74,6 +77,11 @@ impl Curve {
             && self.breakpoints.iter().all(|volts| (-(1 << 26)..=1 << 26).contains(volts))
             && self.breakpoints.windows(2).all(|pair| pair[0] < pair[1])
     }
+}
+
+/// A free node's leak in images of this version: document 01's, and since version 2 the stiffer one of document 02.
+pub fn leak(version: i128) -> i128 {
+    if version == 1 { 1 } else { 10 }
 }
 
 /// The whole number nearest to `over / under`: the one below, until the middle between it and the next is reached.
@@ -107,5 +115,5 @@ pub fn circuit(header: &Header, curves: Vec<Curve>, parts: &[Part]) -> Result<Ci
         return Err(6);
     }
     let (nodes, driven, output) = (header.nodes as usize, header.driven as usize, header.output as usize);
-    Ok(Circuit { nodes, driven, output, elements, curves })
+    Ok(Circuit { leak: leak(header.version), nodes, driven, output, elements, curves })
 }

@@ -29,6 +29,7 @@ struct Trailer {
 /// The trailer's fields, or 2. The two distances are handed on unread: they belong to number 3.
 fn trailer(bytes: &[u8]) -> Result<Trailer, u64> {
     let header = Header {
+        version: bytes[13] as i128,
         elements: bytes[4] as usize,
         curves: bytes[5] as usize,
         nodes: bytes[6] as i128,
@@ -36,7 +37,7 @@ fn trailer(bytes: &[u8]) -> Result<Trailer, u64> {
         rate: whole(&bytes[8..12]),
         output: bytes[12] as i128,
     };
-    if !header.fits() || bytes[13] != 1 || whole(&bytes[14..16]) != 16 {
+    if !header.fits() || whole(&bytes[14..16]) != 16 {
         return Err(2);
     }
     Ok(Trailer { to_elements: whole(&bytes[0..2]) as usize, to_curves: whole(&bytes[2..4]) as usize, header })

@@ -14,7 +14,7 @@ mod start;
 mod words;
 mod writer;
 
-use drawn::Refusal;
+use drawn::{Drawn, Refusal};
 use schematic::Fault;
 
 /// A part of the host's memory; a length of zero may come with any pointer.
@@ -49,17 +49,32 @@ pub unsafe extern "C" fn second_block(
     outcome.number * 65_536 + outcome.count
 }
 
-/// Number x 2^32 + count.
+/// Writes the image of what was read: number x 2^32 + count.
+fn written(read: Result<Drawn, Refusal>, image: &mut [u8]) -> u64 {
+    let (number, count) = match read {
+        Ok(drawn) => drawn.write(image).map_or_else(|number| (number, 0), |length| (0, length)),
+        Err(Refusal::Text(Fault { number, line })) => (number, line),
+        Err(Refusal::Parts(number)) => (number, 0),
+    };
+    (number << 32) + count as u64
+}
+
+/// The image in the version that a netlist is read in.
 ///
 /// # Safety
 /// As for `second_block`.
 #[unsafe(no_mangle)]
 pub unsafe extern "C" fn second_image(text: *const u8, text_length: usize, image: *mut u8, image_length: usize) -> u64 {
     let (text, image) = unsafe { (lent(text, text_length), lent_mut(image, image_length)) };
-    let (number, count) = match drawn::read(text) {
-        Ok(drawn) => drawn.write(image).map_or_else(|number| (number, 0), |length| (0, length)),
-        Err(Refusal::Text(Fault { number, line })) => (number, line),
-        Err(Refusal::Parts(number)) => (number, 0),
-    };
-    (number << 32) + count as u64
+    written(drawn::read(text), image)
+}
+
+/// The image in a version.
+///
+/// # Safety
+/// As for `second_block`.
+#[unsafe(no_mangle)]
+pub unsafe extern "C" fn second_image_version(version: u32, text: *const u8, text_length: usize, image: *mut u8, image_length: usize) -> u64 {
+    let (text, image) = unsafe { (lent(text, text_length), lent_mut(image, image_length)) };
+    written(drawn::read_in(version as i128, text), image)
 }

@@ -1,5 +1,5 @@
-//! Reads netlists: of each two arguments the first names a text and the second a file for its image. Writes the parts that the text describes, and how far its
-//! voltages are to be trusted, or what refuses it.
+//! Reads netlists: of each two arguments the first names a text and the second a file for its image. In front of a text may stand `-` and a number, the version
+//! of this text and all after it. Writes the parts that the text describes, and how far its voltages are to be trusted, or what refuses it.
 
 mod circuit;
 mod drawn;
@@ -9,9 +9,10 @@ mod schematic;
 mod words;
 mod writer;
 
-use circuit::{Circuit, Element, Kind, LEAK, Part};
+use circuit::{Circuit, Element, Kind, Part};
 use drawn::{Drawn, Refusal};
 use schematic::Fault;
+use std::ffi::OsStr;
 use std::fs;
 use std::io::{self, BufWriter, Write};
 use std::path::Path;
@@ -31,7 +32,7 @@ fn put_element(lines: &mut impl Write, part: &Part, element: &Element) -> io::Re
 
 /// A node's held conductance and its steepest sum.
 fn sums(circuit: &Circuit, node: usize) -> (i128, i128) {
-    let (mut held, mut steepest) = (LEAK, LEAK);
+    let (mut held, mut steepest) = (circuit.leak, circuit.leak);
     for element in circuit.elements.iter().filter(|one| one.p == node || one.q == node) {
         let other = if element.p == node { element.q } else { element.p };
         if element.kind == Kind::Diode {
@@ -45,9 +46,9 @@ fn sums(circuit: &Circuit, node: usize) -> (i128, i128) {
 }
 
 fn put(lines: &mut impl Write, drawn: &Drawn) -> io::Result<()> {
-    let circuit = &drawn.circuit;
-    writeln!(lines, "version 1\nnodes {}\ndrives {}\noutput {}", circuit.nodes, circuit.driven, circuit.output)?;
-    writeln!(lines, "rate {}\nelements {}\ncurves {}", drawn.rate, circuit.elements.len(), circuit.curves.len())?;
+    let Drawn { header, circuit, .. } = drawn;
+    writeln!(lines, "version {}\nnodes {}\ndrives {}\noutput {}", header.version, header.nodes, header.driven, header.output)?;
+    writeln!(lines, "rate {}\nelements {}\ncurves {}", header.rate, header.elements, header.curves)?;
     for (part, element) in drawn.parts.iter().zip(&circuit.elements) {
         put_element(lines, part, element)?;
     }
@@ -86,18 +87,29 @@ fn keep(drawn: &Drawn, file: &Path) {
     }
 }
 
+/// The version that a word in a text's place asks for, if it is no text's name.
+fn asked(word: &OsStr) -> Option<i128> {
+    words::whole(word.as_encoded_bytes().strip_prefix(b"-")?)
+}
+
 fn main() -> io::Result<()> {
     let mut lines = BufWriter::new(io::stdout().lock());
-    let names: Vec<_> = std::env::args_os().skip(1).collect();
-    for pair in names.chunks(2) {
+    let mut version = drawn::VERSION;
+    let mut arguments = std::env::args_os().skip(1);
+    while let Some(word) = arguments.next() {
+        if let Some(other) = asked(&word) {
+            version = other;
+            continue;
+        }
+        let image = arguments.next();
         // A file that can't be read counts as empty.
-        let text = fs::read(&pair[0]).unwrap_or_default();
-        match drawn::read(&text) {
+        let text = fs::read(&word).unwrap_or_default();
+        match drawn::read_in(version, &text) {
             Ok(drawn) => {
                 put(&mut lines, &drawn)?;
                 // A text alone, or with `-`, is only shown.
-                if let Some(file) = pair.get(1).filter(|&name| name != "-") {
-                    keep(&drawn, Path::new(file));
+                if let Some(file) = image.filter(|name| name != "-") {
+                    keep(&drawn, Path::new(&file));
                 }
             }
             Err(Refusal::Text(Fault { number, line })) => writeln!(lines, "refused {number} line {line}")?,

@@ -1,6 +1,6 @@
 //! A circuit's currents: of a curve, of an element, out of a node; and what its elements store after a sample.
 
-use crate::circuit::{Circuit, Curve, Element, Kind, LEAK};
+use crate::circuit::{Circuit, Curve, Element, Kind};
 
 /// The current of a curve: its slopes added up over the way from zero to `volts`.
 fn curve_current(curve: &Curve, volts: i128) -> i128 {
@@ -53,7 +53,7 @@ impl<'a> Network<'a> {
     /// The sum of all currents leaving a node.
     pub fn net(&self, at: usize, stored: &[i128], node: &[i128]) -> i128 {
         let leaving = |end: &End| end.sign * self.current(end.element, stored[end.index], node);
-        LEAK * node[at] + self.ends[at].iter().map(leaving).sum::<i128>()
+        self.circuit.leak * node[at] + self.ends[at].iter().map(leaving).sum::<i128>()
     }
 
     /// The stored currents after a sample.

@@ -1,4 +1,5 @@
-//! Writes each image that is named as a netlist, which is read back to the same parts, or says why there is none.
+//! Writes each image that is named as a netlist, which is read back to the same parts in its version, or says why there is none. A netlist can't say a version,
+//! so a comment does.
 
 // Nothing is played here: of a circuit only its judgement and its curves are wanted.
 #[allow(dead_code)]
@@ -55,8 +56,8 @@ fn put_curve(lines: &mut impl Write, curve: &Curve) -> io::Result<()> {
 }
 
 fn put(lines: &mut impl Write, drawing: &Drawing) -> io::Result<()> {
-    let Header { driven, output, rate, .. } = drawing.header;
-    writeln!(lines, "drives {driven}\noutput {output}\nrate {rate}")?;
+    let Header { version, driven, output, rate, .. } = drawing.header;
+    writeln!(lines, "; version {version}\ndrives {driven}\noutput {output}\nrate {rate}")?;
     for (part, number) in drawing.parts.iter().zip(1..) {
         put_part(lines, number, part)?;
     }

@@ -1,4 +1,4 @@
-/* The second program's block, and its image of a netlist, for a host test that holds others against them. */
+/* The second program's block, and its images of a netlist, for a host test that holds others against them. */
 #ifndef SECOND_H
 #define SECOND_H
 
@@ -11,5 +11,8 @@ uint64_t second_block(const uint8_t *image, size_t image_length, uint8_t *state,
 
 /* Number x 2^32 + count, with the image of document 02 at the buffer's start. */
 uint64_t second_image(const uint8_t *text, size_t text_length, uint8_t *image, size_t image_length);
+
+/* The same in a version. */
+uint64_t second_image_version(uint32_t version, const uint8_t *text, size_t text_length, uint8_t *image, size_t image_length);
 
 #endif

@@ -1,7 +1,7 @@
 //! A place to start from, in f64: where all net currents about vanish. It saves time and decides nothing: the search that starts there
 //! ends at the same voltages from anywhere.
 
-use crate::circuit::{Circuit, Curve, Kind, LEAK};
+use crate::circuit::{Circuit, Curve, Kind};
 
 const ROUNDS: usize = 30;
 /// In microvolts: beyond nearly all that stored currents can bring about, and near enough for i128. Differences are then below 2^54, the net
@@ -39,7 +39,7 @@ fn system(circuit: &Circuit, stored: &[i128], node: &[f64]) -> Vec<Vec<f64>> {
     let free = circuit.nodes - circuit.driven;
     let row_of = |at: usize| at.checked_sub(circuit.driven + 1);
     let mut rows = vec![vec![0.0; free + 1]; free];
-    rows.iter_mut().enumerate().for_each(|(index, row)| row[index] = LEAK as f64);
+    rows.iter_mut().enumerate().for_each(|(index, row)| row[index] = circuit.leak as f64);
     for (element, &x) in circuit.elements.iter().zip(stored) {
         let (slope, at_zero) = match element.kind {
             Kind::Diode => tangent(&circuit.curves[element.curve], node[element.p] - node[element.q]),

@@ -10,7 +10,7 @@ mod writer;
 use std::io::{self, BufWriter, Write};
 use writer::{Curve, Element, Parts};
 
-const RECORD: usize = 1_332;
+const RECORD: usize = 1_334;
 
 /// The fields of a record that are not taken yet.
 struct Fields<'a>(&'a [u8]);
@@ -49,7 +49,6 @@ fn curve(fields: &mut Fields) -> Curve {
 /// Fields of a struct are taken in the order in which they are written here.
 fn parts(fields: &mut Fields) -> Parts {
     Parts {
-        version: fields.byte(),
         nodes: fields.byte(),
         driven: fields.byte(),
         output: fields.byte(),
@@ -64,10 +63,12 @@ fn parts(fields: &mut Fields) -> Parts {
 fn answer(record: &[u8], answers: &mut impl Write) -> io::Result<()> {
     let mut fields = Fields(record);
     let room = u16::from_le_bytes(fields.bytes()) as usize;
+    let [given, version, _parts_own] = fields.bytes();
     let parts = parts(&mut fields);
     // Every byte is unlike its neighbours, so that one that is lost or moved is seen.
     let mut buffer: Vec<u8> = (0..room).map(|place| ((7 * place + 165) % 256) as u8).collect();
-    let (number, length) = writer::write(&parts, &mut buffer).map_or_else(|number| (number, 0), |length| (0, length as u64));
+    let written = writer::write((given != 0).then_some(version), &parts, &mut buffer);
+    let (number, length) = written.map_or_else(|number| (number, 0), |length| (0, length as u64));
     answers.write_all(&number.to_le_bytes())?;
     answers.write_all(&length.to_le_bytes())?;
     answers.write_all(&buffer)

@@ -1,4 +1,4 @@
-"""The fields of parts by their places, and values at which something begins or ends."""
+"""The fields of parts by their places, their own version among them, and values at which something begins or ends."""
 
 HEADER = {"version": 1, "nodes": 1, "driven": 1, "output": 1, "rate": 4, "element_count": 1, "curve_count": 1}
 ELEMENT = {"kind": 1, "p": 1, "q": 1, "curve": 1, "value": 4}

@@ -46,7 +46,7 @@ def main(count, folder, *program):
         sys.exit(words)
     made = sum(tried.image is not None and not answer.number for tried, answer in zip(found, other))
     print(f"{len(found)} records, {count} of them random: {outcomes(other)}; the same answers from both")
-    print(f"{made} of the images are those of {len(tries.images())} cases, byte for byte as describe.py has made them; all are read back as the parts")
+    print(f"{made} of the images are those of {len(tries.images())} cases, in both versions, byte for byte as describe.py has made them; all are read back as the parts")
 
 
 if __name__ == "__main__":

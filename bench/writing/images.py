@@ -1,7 +1,8 @@
 """Holds the image files that `netlist` writes against the second program's: images.py COUNT FOLDER PROGRAM..
 
-Both take the examples, the cases of netlists and COUNT random texts. Of each that is accepted both must leave the same image, an example's being its case's, and any other
-one with the parts that are shown. Of each that is refused there must be none, or the one that was there before. All files go to FOLDER. PROGRAM may be of several words.
+Both take the examples, the cases of netlists and COUNT random texts, in both versions and in one that there is not. Of each that is accepted both must leave the same image, an
+example's being its case's in that version, and any other one with the parts that are shown. Of each that is refused there must be none, or the one that was there before.
+All files go to FOLDER. PROGRAM may be of several words.
 """
 
 import os
@@ -18,6 +19,7 @@ sys.path.insert(0, str(BENCH / "netlist"))
 import texts
 import parts
 import cases
+import layout
 
 SECOND = [BENCH.parent / "target" / "bench" / "netlist"]
 CASES = BENCH.parent / "crates" / "netlist_main" / "data"
@@ -25,6 +27,8 @@ CASES = BENCH.parent / "crates" / "netlist_main" / "data"
 NAMES = 4000
 OLD = b"an image from before"
 EXAMPLE = parts.EXAMPLES[0]
+# By what stands in front of the texts the version of all images; of 3 there is none.
+FRONTS = parts.FRONTS | {("-3",): None}
 
 
 def lines_of(program, words):
@@ -41,31 +45,39 @@ def all_texts(count, folder):
     return [*parts.EXAMPLES, *sorted(CASES.iterdir()), *drawn]
 
 
-def written(program, named, folder):
-    """What a program shows of each text that is named, and the files in its folder afterwards. Every other text has an image from before."""
+def written(program, front, named, folder):
+    """What a program shows of each text that is named, with some words in front, and the files in its folder afterwards. Every other text has an image from before."""
     folder.mkdir()
     images = [folder / f"{place}.image" for place in range(len(named))]
     for image in images[::2]:
         image.write_bytes(OLD)
     names = [name for pair in zip(named, images) for name in pair]
-    lines = b"".join(lines_of(program, names[at:at + NAMES]) for at in range(0, len(names), NAMES))
+    lines = b"".join(lines_of(program, [*front, *names[at:at + NAMES]]) for at in range(0, len(names), NAMES))
     files = {path.name: path.read_bytes() for path in folder.iterdir()}
     return cases.parted(lines, (b"greatest ", b"refused ")), files
 
 
-def of_texts(named, shown, files):
-    """What is wrong with the files that texts leave behind."""
+def of_texts(version, named, shown, files):
+    """What is wrong with the files that texts leave behind, all of which are of one version."""
     known, left = cases.builds(), dict(files)
     for place, (text, lines) in enumerate(zip(named, shown, strict=True)):
         image = left.pop(f"{place}.image", None)
         if lines.startswith(b"refused "):
             if image != (None if place % 2 else OLD):
                 yield f"{text} is refused, and there is a new image or the old one is another"
-        elif image is None or parts.report(image).encode() != lines:
-            yield f"{text} has no image, or one that is not what is shown"
-        elif text in parts.EXAMPLES and image != known[parts.case_of(text)].image:
+        elif image is None or parts.report(image).encode() != lines or layout.trailer(image).version != version:
+            yield f"{text} has no image, or one that is not what is shown, or not of version {version}"
+        elif text in parts.EXAMPLES and image != layout.in_version(known[parts.case_of(text)].image, version):
             yield f"the image of {text} is not its case's"
     yield from (f"{name} is left behind" for name in left)
+
+
+def of_versions(shown):
+    """What is wrong with the refusals, by what stands in front: a text's own is the same in each version, and without one it has 2 in a version that there is not."""
+    refused = {front: [one if one.startswith(b"refused ") else None for one in lines] for front, lines in shown.items()}
+    for front, version in FRONTS.items():
+        if refused[front] != [one if version else one or b"refused 2\n" for one in refused[()]]:
+            yield f"with {front} in front other texts are refused, or by other numbers"
 
 
 def of_no_image(program, folder):
@@ -124,16 +136,19 @@ def main(count, folder, *program):
     folder, found, left = pathlib.Path(folder), [], []
     named = all_texts(int(count), folder / "texts")
     for name, words in ("second", SECOND), ("other", program):
-        shown, files = written(words, named, folder / f"{name}_images")
-        found += of_texts(named, shown, files)
+        shown, files = {}, {}
+        for front, version in FRONTS.items():
+            shown[front], files[front] = written(words, front, named, folder / f"{name}_images{''.join(front)}")
+            found += of_texts(version, named, shown[front], files[front])
+        found += of_versions(shown)
         found += of_no_image(words, folder / f"{name}_none")
         found += of_no_room(words, folder / f"{name}_killed", True)
         found += of_no_room(words, folder / f"{name}_told", False)
         left.append((shown, files))
     if left[0] != left[1]:
         found.append(f"{program[-1]} shows other lines than the second program, or leaves other images")
-    refused = sum(lines.startswith(b"refused ") for lines in shown)
-    print(f"{len(named)} texts, {len(parts.EXAMPLES)} of them examples and {count} random: {len(named) - refused} images, {refused} refused")
+    refused = sum(lines.startswith(b"refused ") for lines in shown[()])
+    print(f"{len(named)} texts, {len(parts.EXAMPLES)} of them examples and {count} random: {len(named) - refused} images in both versions, {refused} refused")
     sys.exit(cases.verdict(len(named), found))
 
 

@@ -1,4 +1,4 @@
-"""Random parts: such as are accepted, such as may break a rule, and anything past the counts of either."""
+"""Random parts: such as are accepted, such as may break a rule, and anything where no writer looks in either; and versions that a writer is given."""
 
 import fields
 import record
@@ -21,11 +21,11 @@ def past_size(dice, curve):
     return Curve(curve.count, curve.slopes[:curve.count + 1] + other.slopes[curve.count + 1:], curve.points[:curve.count] + other.points[curve.count:])
 
 
-def past_counts(dice, parts):
-    """Parts with anything past their counts."""
+def unseen(dice, parts):
+    """Parts with anything where no writer looks: past their counts, and for their own version."""
     elements = parts.elements[:parts.element_count] + tuple(any_element(dice) for _ in parts.elements[parts.element_count:])
     curves = [past_size(dice, curve) for curve in parts.curves[:parts.curve_count]] + [any_curve(dice) for _ in parts.curves[parts.curve_count:]]
-    return parts._replace(elements=elements, curves=tuple(curves))
+    return parts._replace(version=dice.randrange(256), elements=elements, curves=tuple(curves))
 
 
 def element(dice, nodes, curves, rate):
@@ -51,7 +51,12 @@ def accepted(dice):
     nodes, rate = dice.choice((1, 2, 15, dice.randint(1, 15))), dice.choice((8000, 48000, 192000, dice.randint(8000, 192000)))
     curves = [curve(dice) for _ in range(dice.choice((0, 1, 2, 8, dice.randint(0, 8))))]
     elements = [element(dice, nodes, len(curves), rate) for _ in range(dice.choice((1, 2, 32, dice.randint(1, 32))))]
-    return record.parts((1, nodes, dice.randint(0, nodes), dice.randint(1, nodes), rate), elements, curves)
+    return record.parts((0, nodes, dice.randint(0, nodes), dice.randint(1, nodes), rate), elements, curves)
+
+
+def version(dice):
+    """A version for a writer, or none; now and then one that is refused."""
+    return dice.choice((None, *record.VERSIONS)) if dice.random() < 0.9 else dice.choice((0, 3, 255, dice.randrange(256)))
 
 
 def broken(dice, parts):

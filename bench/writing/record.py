@@ -8,17 +8,19 @@ from collections import namedtuple
 sys.path.insert(0, str(pathlib.Path(__file__).parent.parent / "image"))
 import layout
 
-HEADER, CURVE = "<4BI2B", "<B17I16i"
+HEADER, CURVE = "<H6BI2B", "<B17I16i"
 LONGEST_BUFFER = 2047
 # What a buffer holds before the call.
 BEFORE = bytes((7 * place + 165) % 256 for place in range(LONGEST_BUFFER))
-# What stands in a record: always 32 elements, and 8 curves of 17 slopes and 16 breakpoints, whatever the counts are.
+# An image's, of which a writer that is given none writes the last.
+VERSIONS = 1, 2
+# What stands in a record: always 32 elements, and 8 curves of 17 slopes and 16 breakpoints, whatever the counts are. The version is the parts' own, at which no writer looks.
 Parts = namedtuple("Parts", "version nodes driven output rate element_count curve_count elements curves")
 Curve = namedtuple("Curve", "count slopes points")
 Answer = namedtuple("Answer", "number length buffer")
 NO_ELEMENT, NO_CURVE = layout.Element(0, 0, 0, 0, 0), Curve(0, (0,) * 17, (0,) * 16)
-# Parts for a buffer with so much room, and what comes of them as far as it is known: the number, and the image.
-Try = namedtuple("Try", "what parts room number image", defaults=(None, None))
+# Parts for a buffer with so much room, and what comes of them as far as it is known: the number, and the image. The version that the writer is given may be none.
+Try = namedtuple("Try", "what parts room number image given", defaults=(None, None, None))
 
 
 def padded(found, places, empty):
@@ -63,11 +65,21 @@ def put(whole, path, value):
     return *whole[:first], put(whole[first], rest, value), *whole[first + 1:]
 
 
-def packed(any_parts, room):
-    """The record of parts for a buffer with room for so many bytes."""
+def in_image(given):
+    """The version of what is written by a writer that is given this one, or none."""
+    return VERSIONS[-1] if given is None else given
+
+
+def judged(given, number):
+    """The number of parts that have this one in each version that there is: of another it is 2, before all that comes after 2."""
+    return number if in_image(given) in VERSIONS else 2
+
+
+def packed(any_parts, room, given=None):
+    """The record of parts for a buffer with room for so many bytes. A version that is not given stands as 0, so that a program that takes it for one is found out."""
     elements = b"".join(struct.pack(layout.ELEMENT, *element) for element in any_parts.elements)
     curves = b"".join(struct.pack(CURVE, c.count, *c.slopes, *c.points) for c in any_parts.curves)
-    return struct.pack("<H", room) + struct.pack(HEADER, *any_parts[:7]) + elements + curves
+    return struct.pack(HEADER, room, given is not None, given or 0, *any_parts[:7]) + elements + curves
 
 
 def answers(stream, rooms):
@@ -90,7 +102,7 @@ def complaint(tried, answer):
         return f"{tried.what}: answered {answer.number}, and bytes past the length {answer.length} are not as they were"
     if answer.number:
         return f"{tried.what}: a length beside {answer.number}" if answer.length else None
-    if layout.number(written) != 0 or read(written) != reached(tried.parts):
+    if layout.number(written) != 0 or read(written) != reached(tried.parts)._replace(version=in_image(tried.given)):
         return f"{tried.what}: what is written is not read back as the parts"
     if tried.image not in (None, written):
         return f"{tried.what}: not the bytes that describe.py makes"

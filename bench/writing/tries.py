@@ -1,10 +1,12 @@
 """Parts and buffers of all kinds, of which a program is to write images.
 
-tries(COUNT) has them: every case's parts, as describe.py's image has them, into a buffer of just its length, and with anything past the counts into a longer one; the
-smallest, a middle and the largest of them into buffers of every length, up to 20 bytes more than the image; the limits; small parts and the largest with every value of
-each field of one byte, and every edge of each wider one; and COUNT random parts, of which half have one to three fields at an edge, or anything in them.
+tries(COUNT) has them: every case's parts, as describe.py's image has them, in both versions and in none that is given, into a buffer of just its length, and with anything
+where no writer looks into a longer one; the smallest, a middle and the largest of them into buffers of every length, up to 20 bytes more than the image; the limits; small
+parts and the largest in every version that a byte can be, with every value of each field of one byte, and every edge of each wider one; and COUNT random parts, of which half
+have one to three fields at an edge, or anything in them.
 """
 
+import itertools
 import random
 
 import fields
@@ -31,15 +33,23 @@ def fitting(room, length):
 
 
 def of_cases(dice, found):
-    for name, image in found.items():
+    for (name, image), given in itertools.product(found.items(), (None, *record.VERSIONS)):
         parts, room = record.read(image), dice.randint(len(image), record.LONGEST_BUFFER)
-        yield Try(name, parts, len(image), 0, image)
-        yield Try(f"{name} with anything past its counts", random_parts.past_counts(dice, parts), room, 0, image)
+        written = layout.in_version(image, record.in_image(given))
+        yield Try(f"{name}, version {given}", parts, len(image), 0, written, given)
+        yield Try(f"{name}, version {given}, anything where no writer looks", random_parts.unseen(dice, parts), room, 0, written, given)
 
 
 def of_lengths(image):
+    given = layout.trailer(image).version
     for room in range(len(image) + 21):
-        yield Try(f"an image of {len(image)} bytes, room for {room}", record.read(image), room, fitting(room, len(image)), image)
+        yield Try(f"an image of {len(image)} bytes, room for {room}", record.read(image), room, fitting(room, len(image)), image, given)
+
+
+def of_versions(parts):
+    """Parts for a writer that is given any version, or none."""
+    for given in None, *range(256):
+        yield Try(f"version {given}", parts, record.length(parts), record.judged(given, 0), given=given)
 
 
 def of_fields(parts, wanted=lambda path: True):
@@ -55,13 +65,13 @@ def at_an_end(path):
 
 
 def anything(dice):
-    """Random parts and a buffer."""
-    parts = random_parts.accepted(dice)
+    """Random parts, a version and a buffer."""
+    parts, given = random_parts.accepted(dice), random_parts.version(dice)
     length = record.length(parts)
     room = dice.choice((length, length, length - 1, length + 1, 0, dice.randint(0, record.LONGEST_BUFFER)))
     if dice.random() < 0.5:
-        return Try("random parts", random_parts.past_counts(dice, random_parts.broken(dice, parts)), room)
-    return Try("random parts that are accepted", random_parts.past_counts(dice, parts), room, fitting(room, length))
+        return Try("random parts", random_parts.unseen(dice, random_parts.broken(dice, parts)), room, given=given)
+    return Try("random parts that are accepted", random_parts.unseen(dice, parts), room, record.judged(given, fitting(room, length)), given=given)
 
 
 def tries(count, seed=1):
@@ -72,6 +82,9 @@ def tries(count, seed=1):
     for image in by_length[0], found[MIDDLE], by_length[-1]:
         yield from of_lengths(image)
     yield from limits.limits()
+    largest = record.read(by_length[-1])
+    for parts in limits.WHOLE, largest:
+        yield from of_versions(parts)
     yield from of_fields(limits.WHOLE)
-    yield from of_fields(record.read(by_length[-1]), at_an_end)
+    yield from of_fields(largest, at_an_end)
     yield from (anything(dice) for _ in range(count))

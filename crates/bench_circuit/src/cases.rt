@@ -209,6 +209,26 @@ fn lone() {
     sample(i, b"0 5 -33554432", b"");
 }
 
+// The example in version 2, at each answer and one above.
+fn stiffer_divider() {
+    let i = hex(b"01010200E8030000 01020000E8030000 100000000200020180BB000002021000");
+    circuit(b"divider of version 2", i);
+    sample(i, b"0 0 0", b"");
+    sample(i, b"0 0 1", b"");
+    sample(i, b"0 1000000 499997", b"");
+    sample(i, b"0 1000000 499998", b"");
+    sample(i, b"0 -1000000 -499998", b"");
+    sample(i, b"0 -1000000 -499997", b"");
+}
+
+// .. and where its leak alone holds a node.
+fn stiffer_lone() {
+    let i = hex(b"01010000E8030000 080000000100020180BB000002021000");
+    circuit(b"leak of version 2 alone", i);
+    sample(i, b"0 5 33554432", b"");
+    sample(i, b"0 5 -33554432", b"");
+}
+
 // No free node: no bound.
 fn all_driven() {
     let i = hex(b"01010200E8030000 02020000E8030000 100000000200020280BB000002011000");
@@ -283,6 +303,8 @@ fn curves() {
 
 fn more() {
     lone();
+    stiffer_divider();
+    stiffer_lone();
     all_driven();
     drives();
     clipper();

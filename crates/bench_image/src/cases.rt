@@ -5,13 +5,13 @@ use super::show;
 ghost use Prim.Native.Nat.{_<_};
 
 // How many there are.
-const COUNT: usize = 317;
+const COUNT: usize = 324;
 
 // Three numbers to each: what is done, where, and the value.
 //   0  on a new line, a good image: 0 is the example, 1 is mixed, 2 is the largest
 //   1  the number of the image with that byte there, 2 with those four bytes
 //   3  from here on the image has that byte there, 4 those four bytes
-const CASES: [u64; 951] = [
+const CASES: [u64; 972] = [
     // counts of elements 0 1 2 3 32 33 255
     0,
     0,
@@ -116,7 +116,7 @@ const CASES: [u64; 951] = [
     1,
     28,
     255,
-    // version 0 1 2 3
+    // version 0 1 2 3 255
     0,
     0,
     0,
@@ -132,6 +132,28 @@ const CASES: [u64; 951] = [
     1,
     29,
     3,
+    1,
+    29,
+    255,
+    // in version 2: last number 16 20, kinds 5 6
+    0,
+    0,
+    0,
+    3,
+    29,
+    2,
+    1,
+    30,
+    16,
+    1,
+    30,
+    20,
+    1,
+    0,
+    5,
+    1,
+    0,
+    6,
     // last number 15 16 17 20, and 272
     0,
     0,
@@ -907,7 +929,7 @@ const CASES: [u64; 951] = [
     1,
     3,
     85,
-    2,
+    3,
     2,
     4,
     2000000001,
@@ -1060,7 +1082,7 @@ fn case(i: Image, what: u64, at: u64, v: u64) -> Image {
 }
 
 fn entry(k: usize) -> u64
-    requires { ⌜ k < 951 ⌝ }
+    requires { ⌜ k < 972 ⌝ }
 {
     CASES[k]
 }

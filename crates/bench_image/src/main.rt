@@ -19,13 +19,14 @@ use show::circuit;
 use show::cuts;
 use show::plain;
 
-// Document 01's example, a circuit of each kind of element, the shortest and the longest image, and
-// what stands beside a refusal.
+// Document 01's example, a circuit of each kind of element, the shortest and the longest image, the
+// example in version 2, and what stands beside a refusal.
 fn good() {
     circuit(b"example", example());
     circuit(b"mixed", mixed());
     circuit(b"smallest", smallest());
     circuit(b"largest", largest());
+    circuit(b"version 2", byte(example(), 29, 2));
     circuit(b"refused", byte(example(), 20, 0));
 }
 

@@ -1,4 +1,5 @@
-// Document 01's bench cases one by one, and samples that are refused by each of its numbers 9, 10 and 11.
+// Document 01's bench cases one by one, two of them in version 2 too, and samples that are refused by each
+// of its numbers 9, 10 and 11.
 use crate::play;
 
 // Document 01's whole example.
@@ -39,6 +40,27 @@ fn alone(x: i64) {
     play::case(
         b"alone",
         b"\x02\x01\x00\x00\x10\x27\x00\x00\x08\x00\x00\x00\x01\x00\x01\x00\x80\xbb\x00\x00\x01\x01\x10\x00",
+        0,
+        x,
+        0,
+    );
+}
+
+// The example and the capacitor in version 2, whose leak moves the answer and the rail.
+fn stiffer_divider(d: i64) {
+    play::case(
+        b"stiffer_divider",
+        b"\x01\x01\x02\x00\xe8\x03\x00\x00\x01\x02\x00\x00\xe8\x03\x00\x00\x10\x00\x00\x00\x02\x00\x02\x01\x80\xbb\x00\x00\x02\x02\x10\x00",
+        0,
+        0,
+        d,
+    );
+}
+
+fn stiffer_alone(x: i64) {
+    play::case(
+        b"stiffer_alone",
+        b"\x02\x01\x00\x00\x10\x27\x00\x00\x08\x00\x00\x00\x01\x00\x01\x00\x80\xbb\x00\x00\x01\x02\x10\x00",
         0,
         x,
         0,
@@ -98,6 +120,12 @@ pub fn cases() {
     alone(32212288274432);
     alone(-32212288274432);
     alone(-32212288274433);
+    stiffer_divider(1000000);
+    stiffer_divider(-1000000);
+    stiffer_alone(32212590264319);
+    stiffer_alone(32212590264320);
+    stiffer_alone(-32212590264320);
+    stiffer_alone(-32212590264321);
     two_capacitors(-144115188075855872, 0);
     two_capacitors(-144115188075855872, 1);
     two_capacitors(144115188075855872, 0);

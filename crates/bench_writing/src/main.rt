@@ -6,6 +6,7 @@ mod record;
 
 use libc::STDOUT_FILENO;
 use units::bytes;
+use writing::Written;
 ghost use mathlib.Core.Path.{_≡_};
 ghost use Prim.Native.Nat.{_≤_};
 ghost use lib.ListN.{length};
@@ -31,14 +32,25 @@ fn write_number(n: u64) {
     io::write_all(STDOUT_FILENO, &eight);
 }
 
-// Writes the image of a record's parts, and then the answer.
-fn answer(raw: &[u8])
-    requires { ⌜ 1332 ≤ length (now raw) ⌝ }
+// Writes the image of a record's parts, in the version that is given, if one is.
+fn write(raw: &[u8], buffer: &mut [u8]) -> Written
+    requires { ⌜ 1334 ≤ length (now raw) ⌝ }
 {
     let parts = record::parts(raw);
+    if record::has_version(raw) {
+        let version = record::version(raw);
+        return writing::write_version(version, parts, buffer);
+    }
+    writing::write(parts, buffer)
+}
+
+// Writes the image of a record's parts, and then the answer.
+fn answer(raw: &[u8])
+    requires { ⌜ 1334 ≤ length (now raw) ⌝ }
+{
     let n = record::room(raw);
     let mut buffer = unwritten();
-    let written = writing::write(parts, &mut buffer[..n]);
+    let written = write(raw, &mut buffer[..n]);
     write_number(written.number);
     write_number(written.length as u64);
     io::write_all(STDOUT_FILENO, &buffer[..n]);

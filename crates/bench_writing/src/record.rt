@@ -1,5 +1,6 @@
-// A raw record: how long a buffer is to be, and a circuit's parts, which may be any whatever. All fields
-// of the parts are there, past the counts too; bench/README.md has their order.
+// A raw record: how long a buffer is to be, the version that the writer is given, if any, and a
+// circuit's parts, which may be any whatever. All fields of the parts are there, past the counts too, and
+// their own version; bench/README.md has their order.
 use image::Curve;
 use image::Element;
 use image::Parts;
@@ -8,15 +9,15 @@ ghost use Prim.Native.Nat.{_+_, _≤_, _<_};
 ghost use lib.ListN.{length};
 
 // Bytes of a record.
-pub const SIZE: usize = 1332;
+pub const SIZE: usize = 1334;
 
 // No buffer is as long as this.
 pub const LONG: usize = 2048;
 
 // Where the elements begin, and the curves.
-const ELEMENTS: usize = 12;
+const ELEMENTS: usize = 14;
 
-const CURVES: usize = 268;
+const CURVES: usize = 270;
 
 // Bytes of a curve, and where in it the breakpoints begin.
 const CURVE: usize = 133;
@@ -36,7 +37,7 @@ fn element(raw: &[u8], at: usize) -> Element
 }
 
 fn elements(raw: &[u8]) -> [Element; 32]
-    requires { ⌜ 1332 ≤ length (now raw) ⌝ }
+    requires { ⌜ 1334 ≤ length (now raw) ⌝ }
 {
     let none = image::no_parts();
     let mut elements = none.elements;
@@ -79,7 +80,7 @@ fn curve(raw: &[u8], at: usize) -> Curve
 }
 
 fn curves(raw: &[u8]) -> [Curve; 8]
-    requires { ⌜ 1332 ≤ length (now raw) ⌝ }
+    requires { ⌜ 1334 ≤ length (now raw) ⌝ }
 {
     let none = image::no_curve();
     let mut curves = [none; 8];
@@ -91,26 +92,40 @@ fn curves(raw: &[u8]) -> [Curve; 8]
 
 // How long the buffer is to be.
 pub fn room(raw: &[u8]) -> usize
-    requires { ⌜ 1332 ≤ length (now raw) ⌝ }
+    requires { ⌜ 1334 ≤ length (now raw) ⌝ }
     ensures { λ r. ⌜ r < 2048 ⌝ }
 {
     bytes::u16_at(raw, 0) as usize % LONG
 }
 
+// Whether the writer is given a version.
+pub fn has_version(raw: &[u8]) -> bool
+    requires { ⌜ 1334 ≤ length (now raw) ⌝ }
+{
+    raw[2] != 0
+}
+
+// Which one, if it is.
+pub fn version(raw: &[u8]) -> u8
+    requires { ⌜ 1334 ≤ length (now raw) ⌝ }
+{
+    raw[3]
+}
+
 pub fn parts(raw: &[u8]) -> Parts
-    requires { ⌜ 1332 ≤ length (now raw) ⌝ }
+    requires { ⌜ 1334 ≤ length (now raw) ⌝ }
 {
     let elements = elements(raw);
     let curves = curves(raw);
     Parts {
-        version: raw[2],
-        nodes: raw[3],
-        driven: raw[4],
-        output: raw[5],
-        rate: bytes::u32_at(raw, 6) as u32,
-        element_count: raw[10],
+        version: raw[4],
+        nodes: raw[5],
+        driven: raw[6],
+        output: raw[7],
+        rate: bytes::u32_at(raw, 8) as u32,
+        element_count: raw[12],
         elements,
-        curve_count: raw[11],
+        curve_count: raw[13],
         curves,
     }
 }

@@ -1,17 +1,19 @@
 -- The parts of a netlist that is accepted fit the widths of the image's fields. Assumes nothing.
 use mathlib.Core.Path.{_≡_, ap}
+use mathlib.Core.Bool.{true}
 use mathlib.Core.List.{List}
 use Prim.Native.Nat.{ℕ, suc, _<_}
 use native.Mathlib.Omega.{arith}
 use lib.IntN.{pos}
 use lib.ListN.{getD}
 use Rattle.units.specs.declared.number.Number.the-variants.{Done}
-use Rattle.units.proofs.Every.{every-says}
+use Rattle.units.specs.Table.{between}
+use Rattle.units.proofs.Every.{between-says, every-says}
 use Rattle.units.proofs.Machine.{fits-half}
 use Rattle.units.proofs.Tables.{tabulate-length, tabulate-at}
 use Rattle.network.specs.Network.{reading, breakpointLimit, CurveInLimits}
 use Rattle.image.specs.Judged.{judged}
-use Rattle.image.specs.Parts.{elementOf, curveOf, slopesOf, breakpointsOf, elementsFit}
+use Rattle.image.specs.Parts.{version1, version2, inVersion, elementOf, curveOf, slopesOf, breakpointsOf, elementsFit}
 use Rattle.image.specs.declared.parts.Curve.{Curve}
 use Rattle.image.specs.declared.parts.Element.{Element}
 use Rattle.image.specs.declared.parts.Parts.{Parts}
@@ -67,6 +69,23 @@ module _ (parts : Parts) (e : judged parts ≡ Done) (values : ValuesFit parts) 
         curves = λ k l. curve-in-widths (curveOf parts k) (judged-sound parts e .0 .curves k l);
       }
 
+-- and in every version that there is
+version-in-widths : (version : ℕ) (parts : Parts) → InWidths parts → version < 256 → InWidths (inVersion version parts)
+unfolding inVersion elementOf curveOf
+version-in-widths version parts w small = record {
+  version = small;
+  nodes = w .nodes;
+  driven = w .driven;
+  output = w .output;
+  rate = w .rate;
+  element-count = w .element-count;
+  elements = w .elements;
+  curve-count = w .curve-count;
+  curves = w .curves;
+}
+
 -- the parts that a text is answered by fit, if its number is 0
-pub in-widths : (text : List ℕ) {a : Answer} → Answers text a → numberOf (a .verdict) ≡ 0 → InWidths (a .parts)
-in-widths text {a = a} h e = parts-in-widths (a .parts) (accepted-judged text h e) (values-fit text h)
+pub in-widths : (text : List ℕ) {a : Answer} → Answers text a → numberOf (a .verdict) ≡ 0 → (version : ℕ) → between version1 version2 version ≡ true → InWidths (inVersion version (a .parts))
+in-widths text {a = a} h e version there =
+    let low-high = between-says version1 version2 version there in
+    version-in-widths version (a .parts) (parts-in-widths (a .parts) (accepted-judged text h e) (values-fit text h)) (omega (arith, low-high .1))

@@ -7,3 +7,4 @@ pub mod Places
 pub mod Promise
 pub mod Says
 pub mod Sound
+pub mod Versions

@@ -8,14 +8,14 @@ use native.Mathlib.Numerals.{add-one}
 use lib.Dec.{eqb, leb, ltb}
 use lib.IntN.{pos, natAbs}
 use lib.ListN.{getD}
-use borrow.Author.Tests.{leb-true, ltb-true, eqb-true, eqb-false, not-true}
+use borrow.Author.Tests.{leb-true, ltb-true, eqb-false, not-true}
 use Rattle.units.specs.Table.{between, every}
 use Rattle.units.proofs.Tables.{tabulate-length, tabulate-at, tabulate-past}
 use Rattle.units.proofs.Every.{both, between-says, every-says, every-same}
 use Rattle.units.proofs.Integers.{decideN}
 use Rattle.network.specs.Network.{reading, nodeLimit, branchLimit, conductanceLimit, breakpointLimit, breakpointCountLimit, CurveInLimits}
 use Rattle.network.specs.Kind.{hasCurve, resistorKind, diodeKind}
-use Rattle.image.specs.Parts.{curveLimit, lowestRate, highestRate, version1, noCurve, curveOf, slopesOf, breakpointsOf, headerFits, curveSizeFits, curveSizesFit, slopeFits, breakpointFits, rises, curveFits, curvesFit, kindAllowed, elementFits}
+use Rattle.image.specs.Parts.{curveLimit, lowestRate, highestRate, version1, version2, noCurve, curveOf, slopesOf, breakpointsOf, headerFits, curveSizeFits, curveSizesFit, slopeFits, breakpointFits, rises, curveFits, curvesFit, kindAllowed, elementFits}
 use Rattle.image.specs.Conductance.{conductanceFits}
 use Rattle.image.proofs.Places.{curve-there}
 use Rattle.image.specs.declared.parts.Parts.{Parts}
@@ -34,12 +34,13 @@ pub record HeaderSays (parts : Parts) : Type 0 where
   pub rate-high : parts .rate ≤ highestRate
   pub some-output : 1 ≤ parts .output
   pub output-there : parts .output ≤ parts .nodes
-  pub version-is : parts .version ≡ version1
+  pub version-low : version1 ≤ parts .version
+  pub version-high : parts .version ≤ version2
 
 pub header-says : (parts : Parts) → headerFits parts ≡ true → HeaderSays parts
 unfolding headerFits
 header-says parts e =
-    let b = both {b = eqb (parts .version) version1} e in
+    let b = both {b = between version1 version2 (parts .version)} e in
     let c = both {b = between 1 (parts .nodes) (parts .output)} (b .0) in
     let d = both {b = between lowestRate highestRate (parts .rate)} (c .0) in
     let f = both {b = leb (parts .driven) (parts .nodes)} (d .0) in
@@ -49,6 +50,7 @@ header-says parts e =
     let nodes = between-says 1 nodeLimit (parts .nodes) (g .1) in
     let rate = between-says lowestRate highestRate (parts .rate) (d .1) in
     let output = between-says 1 (parts .nodes) (parts .output) (c .1) in
+    let version = between-says version1 version2 (parts .version) (b .1) in
     record {
       some-element = elements .0;
       few-elements = elements .1;
@@ -60,7 +62,8 @@ header-says parts e =
       rate-high = rate .1;
       some-output = output .0;
       output-there = output .1;
-      version-is = eqb-true (parts .version) version1 (b .1);
+      version-low = version .0;
+      version-high = version .1;
     }
 
 -- rule 3: the size of each curve

@@ -1,13 +1,13 @@
--- Images of document 01's bench cases, byte for byte: the whole example, and those of the other proved cases, all at 48,000 Hz.
+-- Images of document 01's bench cases, byte for byte: the whole example, and those of the other proved cases, all at 48,000 Hz and, but for the first, of version 1.
 -- Assumes nothing.
 use mathlib.Core.List.{List, [], _∷_}
 use Prim.Native.Nat.{ℕ}
 
--- document 01's whole example: 1000 ohm from driven node 1 to free node 2 and 1000 ohm from 2 to ground, output 2
-unfoldable pub example : List ℕ
-example =
+-- document 01's whole example, in a version: 1000 ohm from driven node 1 to free node 2 and 1000 ohm from 2 to ground, output 2
+unfoldable pub exampleIn : (version : ℕ) → List ℕ
+exampleIn version =
     0x01 ∷ 0x01 ∷ 0x02 ∷ 0x00 ∷ 0xE8 ∷ 0x03 ∷ 0x00 ∷ 0x00 ∷ 0x01 ∷ 0x02 ∷ 0x00 ∷ 0x00 ∷ 0xE8 ∷ 0x03 ∷ 0x00 ∷ 0x00 ∷ 0x10 ∷ 0x00 ∷ 0x00 ∷ 0x00
-    ∷ 0x02 ∷ 0x00 ∷ 0x02 ∷ 0x01 ∷ 0x80 ∷ 0xBB ∷ 0x00 ∷ 0x00 ∷ 0x02 ∷ 0x01 ∷ 0x10 ∷ 0x00 ∷ []
+    ∷ 0x02 ∷ 0x00 ∷ 0x02 ∷ 0x01 ∷ 0x80 ∷ 0xBB ∷ 0x00 ∷ 0x00 ∷ 0x02 ∷ version ∷ 0x10 ∷ 0x00 ∷ []
 
 -- 1000 ohm from 1 to 2, 10,000 pF from 2 to ground
 unfoldable pub lowPass : List ℕ

@@ -25,8 +25,16 @@ lowestRate = 8000
 abbrev pub highestRate : ℕ
 highestRate = 192000
 
+-- the versions of an image: document 01's, and that of document 02's request 6
 abbrev pub version1 : ℕ
 version1 = 1
+
+abbrev pub version2 : ℕ
+version2 = 2
+
+-- the greatest number that the image has room for as a version
+abbrev pub versionMost : ℕ
+versionMost = 255
 
 -- ---- elements and curves as far as the counts reach
 
@@ -48,6 +56,20 @@ noParts = record {
   elements = replicate branchLimit noElement;
   «curve_count» = 0;
   curves = replicate curveLimit noCurve;
+}
+
+-- parts, taken for those of a version
+unfoldable pub inVersion : ℕ → Parts → Parts
+inVersion version parts = record {
+  version = version;
+  nodes = parts .nodes;
+  driven = parts .driven;
+  output = parts .output;
+  rate = parts .rate;
+  «element_count» = parts .«element_count»;
+  elements = parts .elements;
+  «curve_count» = parts .«curve_count»;
+  curves = parts .curves;
 }
 
 -- element j and curve k
@@ -75,7 +97,7 @@ headerFits parts =
     && leb (parts .driven) (parts .nodes)
     && between lowestRate highestRate (parts .rate)
     && between 1 (parts .nodes) (parts .output)
-    && eqb (parts .version) version1
+    && between version1 version2 (parts .version)
 
 -- 3: the size of a curve, which is the number of its breakpoints
 abbrev pub curveSizeFits : ℕ → Bool

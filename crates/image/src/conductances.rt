@@ -15,11 +15,14 @@ ghost use Rattle.image.specs.Conductance.{resistorConductance, capacitor
 ghost use Rattle.image.specs.Setting.{plain};
 ghost use Rattle.image.specs.Meaning.{leakOf};
 
-// The leak of every free node.
+// The leak of every free node, by the image's version.
 pub fn leak(version: u8) -> u64
     ensures { λ r. ⌜ r ≡ leakOf version ⌝ }
 {
-    1
+    if version == limits::VERSION_1 {
+        return 1;
+    }
+    10
 }
 
 fn resistor(ohms: u32) -> u64

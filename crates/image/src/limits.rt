@@ -22,7 +22,13 @@ pub const LOWEST_RATE: u32 = 8000;
 
 pub const HIGHEST_RATE: u32 = 192000;
 
-pub const VERSION: u8 = 1;
+// The versions of an image. They differ in the leak alone.
+pub const VERSION_1: u8 = 1;
+
+pub const VERSION_2: u8 = 2;
+
+// The greatest number that the image has room for as a version.
+pub const VERSION_MOST: u64 = 255;
 
 // The greatest conductance and slope, in nanosiemens, and the greatest size of a breakpoint, in
 // microvolts.

@@ -25,7 +25,7 @@ pub fn header_fits(parts: Parts) -> bool
         & (parts.driven <= parts.nodes)
         & ((limits::LOWEST_RATE <= parts.rate) & (parts.rate <= limits::HIGHEST_RATE))
         & ((1 <= parts.output) & (parts.output <= parts.nodes))
-        & (parts.version == limits::VERSION)
+        & ((limits::VERSION_1 <= parts.version) & (parts.version <= limits::VERSION_2))
 }
 
 // Whether a curve may have so many breakpoints.

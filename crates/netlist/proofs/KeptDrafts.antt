@@ -5,7 +5,7 @@ use Prim.Native.Nat.{ℕ, suc, _≤_}
 use native.Mathlib.Omega.{arith}
 use lib.ListN.{length, getD, length-set}
 use lib.Seq.{getD-set-other}
-use Rattle.image.specs.Parts.{noElement, noCurve, noParts}
+use Rattle.image.specs.Parts.{noElement, noCurve, noParts, inVersion}
 use Rattle.image.specs.declared.parts.Curve.{Curve}
 use Rattle.image.specs.declared.parts.Element.{Element}
 use Rattle.image.specs.declared.parts.Parts.{Parts}
@@ -30,7 +30,7 @@ pub record Tidy (parts : Parts) : Type 0 where
   pub curves : (k : ℕ) → TidyCurve (getD (parts .curves) k noCurve)
 
 pub tidy-blank : Tidy (blankDraft .parts)
-unfolding blankDraft noParts
+unfolding blankDraft noParts inVersion
 tidy-blank = record {
   few-elements = omega arith;
   few-curves = omega arith;
@@ -113,7 +113,7 @@ small-kept parts s = rw (fits (parts .nodes) mostByte (s .nodes), fits (parts .d
 -- ---- drafts
 
 pub blank-kept : keptDraft blankDraft ≡ blankDraft
-unfolding blankDraft keptParts keptCurve noParts
+unfolding blankDraft keptParts keptCurve noParts inVersion
 blank-kept = refl
 
 module _ (d : Draft) where

@@ -1,5 +1,5 @@
 -- What the reader's promise comes to: a text has one reading and one answer; 14 is given for no text of the grammar, and any other text gets it unless a
--- value on an earlier line is refused before; what is read is in the grammar. Assumes nothing.
+-- value on an earlier line is refused before; what is read is in the grammar; what is accepted keeps every rule, and is of version 2. Assumes nothing.
 use mathlib.Core.Path.{_≡_, refl, _∙_, ap}
 use mathlib.Core.Bool.{Bool, true, false}
 use mathlib.Core.List.{List, []}
@@ -16,13 +16,16 @@ use Rattle.units.proofs.Numbers.{number-small, done-only}
 use Rattle.console.specs.Words.{first, lines}
 use Rattle.console.specs.declared.words.Run.the-variants as run
 use Rattle.image.specs.Judged.{judged}
+use Rattle.image.specs.Parts.{version2, inVersion}
+use Rattle.image.specs.declared.parts.Curve.{Curve}
 use Rattle.image.specs.declared.parts.Parts.{Parts}
-use Rattle.netlist.specs.Draft.{said, complete, again, faultOf, withLine}
+use Rattle.netlist.specs.Draft.{withElement, withCurve, withSetting, blankDraft, said, complete, again, faultOf, withLine}
 use Rattle.netlist.specs.Text.{SaysLine, Netlist, end, line, InGrammar}
 use Rattle.netlist.specs.Answer.{numberOf, lineOf, refused, judgedAnswer, atEnd, Answered, ended, unread, repeated, beyond, passed, Answers, long, read}
 use Rattle.netlist.specs.declared.draft.Draft.{Draft}
 use Rattle.netlist.specs.declared.draft.Fault.{Fault}
 use Rattle.netlist.specs.declared.draft.Fault.the-variants.{Nothing, Grammar, Value}
+use Rattle.netlist.specs.declared.said.Field.the-variants.{Drives, Output, Rate}
 use Rattle.netlist.specs.declared.said.Line.{Line}
 use Rattle.netlist.specs.declared.said.Line.the-variants as saying
 use Rattle.netlist.specs.declared.said.Said.{Said}
@@ -217,3 +220,37 @@ answered-accepted (passed x s k rest) e = answered-accepted rest e
 pub accepted-judged : (text : List ℕ) {a : Answer} → Answers text a → numberOf (a .verdict) ≡ 0 → judged (a .parts) ≡ Done
 accepted-judged text (long h) e = absurd (omega (arith, e))
 accepted-judged text (read h rest) e = answered-accepted rest e
+
+-- ---- the version
+
+-- no line changes it
+line-version : (d : Draft) (l : Line) (c : Curve) → withLine d l c .parts .version ≡ d .parts .version
+unfolding withLine withElement withSetting withCurve
+line-version d saying.Broken c = refl
+line-version d saying.Empty c = refl
+line-version d saying.Outside c = refl
+line-version d (saying.Part e) c = refl
+line-version d (saying.Setting Drives n) c = refl
+line-version d (saying.Setting Output n) c = refl
+line-version d (saying.Setting Rate n) c = refl
+line-version d saying.Curve c = refl
+
+judged-version : (parts : Parts) → numberOf (judgedAnswer parts .verdict) ≡ 0 → judgedAnswer parts .parts .version ≡ parts .version
+judged-version parts e = rw (eq-eqb (numbers.numberOf (judged parts)) 0 e)
+
+answered-version : {text : List (List ℕ)} {n : ℕ} {d : Draft} {a : Answer} → Answered text n d a → numberOf (a .verdict) ≡ 0 → a .parts .version ≡ d .parts .version
+answered-version (ended {n = n} {d = d}) e = go (complete d) refl
+  where
+    go : (t : Bool) → complete d ≡ t → atEnd n d .parts .version ≡ d .parts .version
+    go true q = rw (end-complete n d q) (judged-version (d .parts) (rw (end-complete n d q) at e))
+    go false q = absurd (omega (arith, rw (end-missing n d q) at e))
+answered-version (unread h) e = absurd (omega (arith, e))
+answered-version (repeated x s k) e = absurd (omega (arith, e))
+answered-version (beyond x s k) e = absurd (omega (arith, e))
+answered-version (passed {d = d} x s k rest) e = answered-version rest e ∙ line-version d (x .line) (x .curve)
+
+-- parts that come with 0 are of version 2
+pub accepted-version : (text : List ℕ) {a : Answer} → Answers text a → numberOf (a .verdict) ≡ 0 → a .parts .version ≡ version2
+unfolding blankDraft inVersion
+accepted-version text (long h) e = absurd (omega (arith, e))
+accepted-version text (read h rest) e = answered-version rest e

@@ -11,7 +11,7 @@ use Rattle.console.specs.Words.{first}
 use Rattle.console.specs.declared.words.Run.the-variants as run
 use Rattle.network.specs.Kind.{resistorKind, diodeKind}
 use Rattle.image.specs.Judged.{judged}
-use Rattle.image.specs.Parts.{noElement, noCurve, noParts}
+use Rattle.image.specs.Parts.{noElement, noCurve, noParts, inVersion}
 use Rattle.image.specs.declared.parts.Element.{Element}
 use Rattle.image.specs.declared.parts.Parts.{Parts}
 use Rattle.ohms.specs.Grammar.{mostOpen}
@@ -44,7 +44,7 @@ none-fit j = rw (none-there 32 j noElement) (omega arith)
 
 -- before the first line
 blank-fit : ValuesFit (blankDraft .parts)
-unfolding blankDraft
+unfolding blankDraft inVersion
 blank-fit = none-fit
 
 -- ---- a line more

@@ -3,7 +3,7 @@
 use mathlib.Core.Bool.{Bool, true, false, _&&_}
 use Prim.Native.Nat.{ℕ, suc, max}
 use lib.ListN.{set}
-use Rattle.image.specs.Parts.{version1, noParts}
+use Rattle.image.specs.Parts.{version2, noParts, inVersion}
 use Rattle.image.specs.declared.parts.Curve.{Curve}
 use Rattle.image.specs.declared.parts.Element.{Element}
 use Rattle.image.specs.declared.parts.Parts.{Parts}
@@ -67,10 +67,10 @@ withSetting parts Rate n = resettled parts (parts .nodes) (parts .driven) (parts
 
 -- ---- drafts: parts, and which settings have been said
 
--- before the first line: nothing, in version 1
+-- before the first line: nothing, in version 2
 unfoldable pub blankDraft : Draft
 blankDraft = record {
-  parts = record { version = version1; nodes = 0; driven = 0; output = 0; rate = 0; «element_count» = 0; elements = noParts .elements; «curve_count» = 0; curves = noParts .curves };
+  parts = inVersion version2 noParts;
   drives = false;
   output = false;
   rate = false;

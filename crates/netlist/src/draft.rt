@@ -26,15 +26,11 @@ pub enum Fault {
     Value,
 }
 
-// The version of a netlist's parts.
-const VERSION: u8 = 1;
-
 // Before the first line.
 pub fn blank() -> Draft
     ensures { λ r. ⌜ r ≡ blankDraft ⌝ }
 {
-    let mut parts = image::no_parts();
-    parts.version = VERSION;
+    let parts = image::in_version(image::VERSION_2, image::no_parts());
     Draft {
         parts,
         drives: false,

@@ -1,12 +1,15 @@
 // Netlists from the schematic tool: of each two arguments the first names a text, the second the file
-// for its image. Writes the parts that each text is, for a person to check, or `refused R` with the line
-// that is at fault; and the image of a text that is not refused, unless its file is `-` or not named. No
-// contract can say what is read or written, so this file and file.rt are there to be read: what the
-// lines are is promised by the crate report and by `refusal::put`, and what the image is by the crate
-// writing.
+// for its image; where a text may be named, a minus and a number ask for a version of the images from
+// there on, which is 2 otherwise. Writes the parts that each text is, for a person to check, or
+// `refused R` with the line that is at fault; and the image of a text that is not refused, unless its
+// file is `-` or not named. No contract can say what is read or written, so this file and file.rt are
+// there to be read: what the lines are is promised by the crate report and by `refusal::put`, which
+// version is asked for by `asked::version`, and what the image is by the crate writing.
+mod asked;
 mod file;
 mod refusal;
 
+use asked::Asked;
 use image::Parts;
 use libc::STDERR_FILENO;
 use libc::STDOUT_FILENO;
@@ -61,7 +64,7 @@ fn put_image(buffer: &mut [u8], parts: Parts) -> usize
     requires { ⌜ (judged parts ≡ Done) × (longest ≤ length (now buffer)) ⌝ }
     ensures { λ r. ⌜ Counts r (now (buffer .exit)) × (take r (now (buffer .exit)) ≡ imageOf parts) ⌝ }
 {
-    writing::write(parts, buffer).length
+    writing::write_version(parts.version, parts, buffer).length
 }
 
 // The image into the file that argument i names, if one is wanted.
@@ -88,32 +91,56 @@ fn write_image(parts: Parts, i: usize)
     file::replace(&path[..named], &image[..end]);
 }
 
-// The report on the text that one argument names, and its image into the file that another does.
-fn report_on(text: usize, image: usize) {
-    let mut path = io::buffer();
-    let named = os::arg(text, &mut path);
+// The report on a text in a version, and its image into the file that argument i names. What the reader
+// lets pass may be refused in that version, which is judged with the parts.
+fn report_text(version: u8, bytes: &[u8], i: usize) {
+    let answer = netlist::read(bytes);
+    let read = answer.verdict;
+    if netlist::number_of(read) != 0 {
+        write_refusal(read);
+        return;
+    }
+    let parts = image::in_version(version, answer.parts);
+    let verdict = Verdict::Judged(image::judge(parts));
+    if netlist::number_of(verdict) != 0 {
+        write_refusal(verdict);
+        return;
+    }
+    write_parts(parts);
+    write_image(parts, i);
+}
+
+// The report on the text of this name, whose image goes into the file that argument i names.
+fn report_on(version: u8, path: &[u8], i: usize) {
     // a descriptor below 0 is read as an empty file
-    let file = os::open_read(&path[..named]);
+    let file = os::open_read(path);
     // longer than any text that is read
     let mut bytes = io::large_buffer();
     let n = io::read_full(file, &mut bytes);
     libc::close(file);
-    let answer = netlist::read(&bytes[..n]);
-    let verdict = answer.verdict;
-    if netlist::number_of(verdict) == 0 {
-        write_parts(answer.parts);
-        write_image(answer.parts, image);
-    } else {
-        write_refusal(verdict);
-    }
+    report_text(version, &bytes[..n], i);
 }
 
 fn main() {
-    // the program's own name is an argument too
-    let pairs = os::arg_count() / 2;
-    let mut j: usize = 0;
-    while j < pairs {
-        report_on(2 * j + 1, 2 * j + 2);
-        j += 1;
+    let count = os::arg_count();
+    let mut version = image::VERSION_2;
+    let mut i: usize = 1;
+    while i < count {
+        let mut path = io::buffer();
+        let named = os::arg(i, &mut path);
+        i += 1;
+        let asked = asked::version(&path[..named]);
+        match asked {
+            Asked::Version(other) => {
+                version = other;
+            }
+            Asked::Nothing => {
+                report_on(version, &path[..named], i);
+                // the image's argument, if there is one
+                if i < count {
+                    i += 1;
+                }
+            }
+        }
     }
 }

@@ -13,11 +13,15 @@ use Rattle.image.specs.declared.parts.Parts.{Parts}
 use Rattle.console.specs.Text.{lineEnd}
 use Rattle.report.specs.Curve.{spaced, slopeNumber}
 use Rattle.report.specs.Fields.{column, lastColumn, namedLine}
-use Rattle.report.specs.Parts.{drivesWord, outputWord, rateWord, letter}
+use Rattle.report.specs.Parts.{versionWord, drivesWord, outputWord, rateWord, letter}
 
--- the settings, each on a line
+-- `; version `: a comment, since a netlist can't say it
+abbrev pub versionComment : List ℕ
+versionComment = 59 ∷ 32 ∷ versionWord
+
+-- the version, and then the settings, each on a line
 unfoldable pub settingLines : Parts → List ℕ
-settingLines parts = namedLine drivesWord (parts .driven) ++ (namedLine outputWord (parts .output) ++ namedLine rateWord (parts .rate))
+settingLines parts = namedLine versionComment (parts .version) ++ (namedLine drivesWord (parts .driven) ++ (namedLine outputWord (parts .output) ++ namedLine rateWord (parts .rate)))
 
 -- ---- the elements
 

@@ -12,14 +12,16 @@ ghost use Rattle.console.specs.Text.{Adds};
 ghost use Rattle.parts.specs.Netlist.{settingLines, elementLines};
 ghost use Rattle.parts.specs.Answer.{Ready, beginning};
 
-// The settings, at the start of `text`.
+// The settings, at the start of `text`. The version is a comment, for whoever asks `netlist` for it: the
+// text can't.
 fn put_settings(text: &mut [u8], parts: Parts) -> usize
-    requires { ⌜ 82 ≤ length (now text) ⌝ }
-    ensures { λ r. ⌜ Adds (settingLines parts) 82 0 (now (text .entry)) r (now (text .exit)) ⌝ }
+    requires { ⌜ 113 ≤ length (now text) ⌝ }
+    ensures { λ r. ⌜ Adds (settingLines parts) 113 0 (now (text .entry)) r (now (text .exit)) ⌝ }
 {
-    let a = report::put_named(text, 0, b"drives ", parts.driven as u64);
-    let b = report::put_named(text, a, b"output ", parts.output as u64);
-    report::put_named(text, b, b"rate ", parts.rate as u64)
+    let a = report::put_named(text, 0, b"; version ", parts.version as u64);
+    let b = report::put_named(text, a, b"drives ", parts.driven as u64);
+    let c = report::put_named(text, b, b"output ", parts.output as u64);
+    report::put_named(text, c, b"rate ", parts.rate as u64)
 }
 
 // The settings and the elements.

@@ -1,11 +1,15 @@
--- The writer's three answers, each from what the code has found. Assumes nothing.
-use mathlib.Core.Path.{_≡_, sym, _∙_}
+-- The writer's three answers, each from what the code has found, and what the number 0 says of the parts. Assumes nothing.
+use mathlib.Core.Path.{_≡_, refl, sym, _∙_}
+use mathlib.Core.Bool.{Bool, true, false}
 use mathlib.Core.List.{List, _++_}
 use Prim.Native.Nat.{ℕ, _+_, _*_, _≤_, _<_}
 use native.Mathlib.Omega.{arith}
+use lib.Dec.{eqb}
 use lib.ListN.{length, drop}
-use borrow.Author.Tests.{ne-eqb, le-leb, lt-leb}
+use borrow.Author.Tests.{eqb-true, ne-eqb, le-leb, lt-leb}
 use Rattle.units.specs.Number.{numberOf}
+use Rattle.units.specs.declared.number.Number.the-variants.{Done}
+use Rattle.units.proofs.Numbers.{done-only}
 use Rattle.image.specs.Format.{elementSize, trailerSize}
 use Rattle.image.specs.Judged.{judged}
 use Rattle.image.specs.declared.parts.Parts.{Parts}
@@ -44,3 +48,12 @@ module _ (parts : Parts) (buffer : List ℕ) where
   writes-image r after held room number long bytes =
       let is = answers-image held room in
       record { number = number ∙ sym is; buffer = bytes ∙ rw is; length = long ∙ rw is }
+
+-- parts that are answered by 0 break no rule
+pub answer-judged : (parts : Parts) (room : ℕ) → answerFor parts room ≡ 0 → judged parts ≡ Done
+unfolding answerFor
+answer-judged parts room e = done-only (judged parts) (go (eqb (numberOf (judged parts)) 0) refl)
+  where
+    go : (t : Bool) → eqb (numberOf (judged parts)) 0 ≡ t → numberOf (judged parts) ≡ 0
+    go true q = eqb-true (numberOf (judged parts)) 0 q
+    go false q = rw q at e

@@ -4,8 +4,9 @@ use mathlib.Core.Bool.{Bool, true, false, cond}
 use mathlib.Core.Logic.{_⊎_, inl, inr}
 use Prim.Native.Nat.{ℕ, zero, suc, _*_, _≤_, _<_}
 use native.Mathlib.Omega.{arith}
+use lib.Dec.{eqb}
 use lib.ListN.{length, length-append}
-use borrow.Author.Tests.{le-leb}
+use borrow.Author.Tests.{le-leb, eqb-true}
 use Rattle.units.specs.declared.number.Number.the-variants.{Done, Trailer, Sizes}
 use Rattle.units.specs.Table.{inTurn}
 use Rattle.units.proofs.Every.{between-says}
@@ -19,7 +20,8 @@ use Rattle.image.specs.declared.parts.Parts.{Parts}
 use Rattle.image.proofs.Judging.{judged-keeps}
 use Rattle.image.proofs.Says.{header-says, curve-size}
 use Rattle.writing.specs.Image.{curveBytes, imageOf}
-use Rattle.writing.specs.Writes.{answerFor}
+use Rattle.writing.specs.Writes.{answerFor, lengthBeside}
+use Rattle.writing.proofs.Answers.{answer-judged}
 use Rattle.writing.proofs.Overlaying.{curve-length, image-length}
 
 -- no curve is longer than one with as many breakpoints as there may be
@@ -57,3 +59,11 @@ image-short parts e =
 pub answers-enough : (parts : Parts) (room : ℕ) → judged parts ≡ Done → longest ≤ room → answerFor parts room ≡ 0
 unfolding answerFor
 answers-enough parts room done enough = rw (done, le-leb (length (imageOf parts)) room (omega (arith, image-short parts done)))
+
+-- the length that the writer answers is never more
+pub length-beside-short : (parts : Parts) (room : ℕ) → lengthBeside (answerFor parts room) parts ≤ longest
+length-beside-short parts room = go (eqb (answerFor parts room) 0) refl
+  where
+    go : (t : Bool) → eqb (answerFor parts room) 0 ≡ t → cond t (length (imageOf parts)) 0 ≤ longest
+    go true e = image-short parts (answer-judged parts room (eqb-true (answerFor parts room) 0 e))
+    go false e = omega arith

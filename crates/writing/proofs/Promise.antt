@@ -1,18 +1,18 @@
 -- What the writer's promise comes to, document 02's request 5: one outcome; reading what was written gives the same parts as far as their counts reach;
--- writing the parts of an accepted image gives its bytes; the writer accepts exactly the parts whose image is accepted. Assumes nothing.
+-- writing the parts of an accepted image in its version gives its bytes; the writer accepts exactly the parts whose image is accepted; and request 6's other
+-- versions. Assumes nothing.
 use mathlib.Core.Path.{_≡_, refl, sym, _∙_, ap}
 use mathlib.Core.Bool.{Bool, true, false, _&&_, cond}
 use mathlib.Core.List.{List, _++_}
 use mathlib.Core.Logic.{_↔_}
 use Prim.Native.Nat.{ℕ, _+_, _*_, _-_, _≤_, _<_}
 use native.Mathlib.Omega.{arith}
-use lib.Dec.{eqb}
 use lib.ListN.{length, getD, take, drop}
 use lib.Seq.{take-append-seam}
-use borrow.Author.Tests.{eq-eqb, eqb-true}
+use borrow.Author.Tests.{eq-eqb}
 use Rattle.units.specs.Number.{numberOf}
+use Rattle.units.specs.Table.{between}
 use Rattle.units.proofs.Every.{between-says, every-each}
-use Rattle.units.proofs.Numbers.{done-only}
 use Rattle.units.specs.declared.number.Number.{Number}
 use Rattle.units.specs.declared.number.Number.the-variants as number
 use Rattle.image.specs.Conductance.{conductancesFit}
@@ -20,17 +20,18 @@ use Rattle.image.specs.Curve.{paddingFits}
 use Rattle.image.specs.Format.{elementSize, shortest, longest, headerOf, curveBytesAt, partsOf, lengthFits, trailerFits, sizesFit, curveBytesFit, Opening, opened, rule, openingOf}
 use Rattle.image.specs.Judged.{judgedBy, judged}
 use Rattle.image.specs.Meaning.{networkAt}
-use Rattle.image.specs.Parts.{elementOf, headerFits, curveSizesFit, curvesFit, elementsFit}
+use Rattle.image.specs.Parts.{version1, version2, inVersion, elementOf, headerFits, curveSizesFit, curvesFit, elementsFit}
 use Rattle.image.specs.Setting.{Setting, plain}
 use Rattle.image.proofs.Judging.{Keeps, judged-keeps, keeps-judged, judged-sound, opened-judged}
 use Rattle.image.proofs.Opening.{opened-kept, opened-0}
+use Rattle.image.proofs.Versions.{own-version, version-refused}
 use Rattle.image.specs.declared.parts.Parts.{Parts}
 use Rattle.image.specs.declared.parts.Curve.{Curve}
 use Rattle.writing.specs.Accepted.{Accepted, numberFor, imageNumber}
 use Rattle.writing.specs.Image.{curveBytes, elementsBytes, curvesBytes, imageOf}
 use Rattle.writing.specs.Reached.{reached, InWidths}
 use Rattle.writing.specs.Writes.{answerFor, Writes}
-use Rattle.writing.proofs.Answers.{answers-image}
+use Rattle.writing.proofs.Answers.{answers-image, answer-judged}
 use Rattle.writing.proofs.Elements.{element-distance-read, curve-distance-read, size-read}
 use Rattle.writing.proofs.Longest.{length-fits}
 use Rattle.writing.proofs.Overlaying.{elements-length, image-length}
@@ -140,16 +141,10 @@ read-back parts small e =
     }
 
 -- so it is what the writer leaves, where it answers by 0
-answer-judged : (parts : Parts) (room : ℕ) → answerFor parts room ≡ 0 → judged parts ≡ number.Done
-unfolding answerFor
-answer-judged parts room e = done-only (judged parts) (go (eqb (numberOf (judged parts)) 0) refl)
-  where
-    go : (t : Bool) → eqb (numberOf (judged parts)) 0 ≡ t → numberOf (judged parts) ≡ 0
-    go true q = eqb-true (numberOf (judged parts)) 0 q
-    go false q = rw q at e
-
-pub write-read : (parts : Parts) → InWidths parts → (before : List ℕ) (r : Written) (after : List ℕ) → Writes parts before r after → r .number ≡ 0 → Accepted (take (r .length) after) (reached parts)
-write-read parts small before r after w e = rw (written-stands parts before r after w e) (read-back parts small (answer-judged parts (length before) (sym (w .number) ∙ e)))
+pub write-read : (version : ℕ) (parts : Parts) → InWidths (inVersion version parts) → (before : List ℕ) (r : Written) (after : List ℕ) → Writes (inVersion version parts) before r after → r .number ≡ 0 → Accepted (take (r .length) after) (reached (inVersion version parts))
+write-read version parts small before r after w e =
+    let whole = inVersion version parts in
+    rw (written-stands whole before r after w e) (read-back whole small (answer-judged whole (length before) (sym (w .number) ∙ e)))
 
 -- parts whose image is accepted break no rule
 accepted-keeps : (parts : Parts) → InWidths parts → (found : Parts) → Accepted (imageOf parts) found → Keeps parts
@@ -188,13 +183,21 @@ write-back image bytes parts a =
     let kept = opened-kept image parts (a .opening) in
     (opened-judged image parts (a .opening) ∙ rw (a .conductances), ap imageOf (kept .is) ∙ written-back image bytes (rw (kept .is) at kept))
 
--- so the writer makes it of them, in a buffer that has room for it
-pub write-again : (image : List ℕ) → ((i : ℕ) → getD image i 0 < 256) → (parts : Parts) → Accepted image parts → (before : List ℕ) → length image ≤ length before → (r : Written) (after : List ℕ) → Writes parts before r after → (r .number ≡ 0) × (after ≡ image ++ drop (length image) before)
+-- so the writer makes it of them when it is given their version, in a buffer that has room for it
+pub write-again : (image : List ℕ) → ((i : ℕ) → getD image i 0 < 256) → (parts : Parts) → Accepted image parts → (before : List ℕ) → length image ≤ length before → (r : Written) (after : List ℕ) → Writes (inVersion (parts .version) parts) before r after → (r .number ≡ 0) × (after ≡ image ++ drop (length image) before)
 write-again image bytes parts a before room r after w =
     let back = write-back image bytes parts a in
     let answer = answers-image parts before (ap numberOf (back .0)) (rw (back .1) room) in
-    (w .number ∙ answer, w .buffer ∙ rw (answer, back .1))
+    let own = rw (own-version parts) at w in
+    (own .number ∙ answer, own .buffer ∙ rw (answer, back .1))
 
 -- and there is one accepted image for given parts
 pub one-image : (a b : List ℕ) → ((i : ℕ) → getD a i 0 < 256) → ((i : ℕ) → getD b i 0 < 256) → (parts : Parts) → Accepted a parts → Accepted b parts → a ≡ b
 one-image a b small small' parts p q = sym (write-back a small parts p .1) ∙ write-back b small' parts q .1
+
+-- ---- the version
+
+-- one that there is not is refused by 2, whatever else is wrong
+pub version-answer : (version : ℕ) (parts : Parts) (room : ℕ) → between version1 version2 version ≡ false → answerFor (inVersion version parts) room ≡ 2
+unfolding answerFor
+version-answer version parts room e = rw (version-refused version parts e)

@@ -7,3 +7,4 @@ mod writer;
 
 pub use writer::Written;
 pub use writer::write;
+pub use writer::write_version;

@@ -5,9 +5,6 @@ use borrow.Author.Needs.{needs}
 use Rattle.bench_writing.proofs.answer.Statement.{statement}
 use Rattle.bench_writing.proofs.answer.Tie as tie
 
-parts-requires : tie.Need-parts-requires
-parts-requires c κs = search needs
-
 room-requires : tie.Need-room-requires
 room-requires c κs = search needs
 
@@ -49,7 +46,6 @@ pub answer-spec : {M : Type 1} → statement M
 answer-spec =
     tie.close
     (tie.spec
-    parts-requires
     room-requires
     unwritten-requires
     array-borrow-prefix-buffer

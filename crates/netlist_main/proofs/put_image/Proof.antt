@@ -8,6 +8,7 @@ use Rattle.units.specs.declared.number.Number.the-variants.{Done}
 use Rattle.image.specs.Format.{longest}
 use Rattle.image.specs.Judged.{judged}
 use Rattle.image.specs.declared.parts.Parts.{Parts}
+use Rattle.image.proofs.Versions.{own-version}
 use Rattle.io.specs.Counts.{Counts}
 use Rattle.writing.specs.Image.{imageOf}
 use Rattle.writing.specs.Writes.{Writes}
@@ -26,8 +27,8 @@ image-there parts before after w done room writes =
     let same : length (take (w .length) after) ≡ w .length = ap length there ∙ sym long in
     ((omega (arith, same, length-take (w .length) after), sym same), there)
 
-write-requires : tie.Need-write-requires
-write-requires c κs = search needs
+write-version-requires : tie.Need-write-version-requires
+write-version-requires c κs = search needs
 
 same-length : tie.Need-same-length
 same-length c = search needs
@@ -35,8 +36,8 @@ same-length c = search needs
 returns : tie.Need-returns
 returns c =
     let s = c .before .before .before .before .before in
-    let w = c .before .before .write in
-    image-there (s .args .parts) (s .args .buffer .now) _ (w .result) (s .pre .0) (s .pre .1) (w .ensures)
+    let w = c .before .before .write-version in
+    image-there (s .args .parts) (s .args .buffer .now) _ (w .result) (s .pre .0) (s .pre .1) (rw (← own-version (s .args .parts)) (w .ensures))
 
 pub put-image-spec : {M : Type 1} → statement M
-put-image-spec = tie.close (tie.spec write-requires same-length returns)
+put-image-spec = tie.close (tie.spec write-version-requires same-length returns)

@@ -5,10 +5,10 @@ use Rattle.bench_image.proofs.cases.run.Statement.{statement}
 use Rattle.bench_image.proofs.cases.run.Tie as tie
 
 abbrev Inv-loop : tie.InvT-loop
-Inv-loop i₀ k₀ t3 i k = k ≤ 317
+Inv-loop i₀ k₀ t3 i k = k ≤ 324
 
 abbrev μ-loop : tie.MeasureT-loop
-μ-loop i₀ k₀ t3 i k = 317 - k
+μ-loop i₀ k₀ t3 i k = 324 - k
 
 example-requires : tie.Need-example-requires Inv-loop μ-loop
 example-requires c κs = search needs

@@ -3,9 +3,11 @@ use native.Mathlib.Omega.{arith}
 use lib.ListN.{length}
 use borrow.Author.Needs.{needs}
 use Rattle.desk.proofs.Counts.{verdict-small, answer-small, line-small}
-use Rattle.desk.proofs.DrawnLaws.{count-small, drawn-refused, drawn-written}
-use Rattle.desk.proofs.krtovalin_image.Statement.{statement}
-use Rattle.desk.proofs.krtovalin_image.Tie as tie
+use Rattle.image.specs.Parts.{inVersion}
+use Rattle.writing.proofs.Longest.{length-beside-short}
+use Rattle.desk.proofs.DrawnLaws.{drawn-refused, drawn-written}
+use Rattle.desk.proofs.draw.Statement.{statement}
+use Rattle.desk.proofs.draw.Tie as tie
 
 read-requires : tie.Need-read-requires
 read-requires c κs = search needs
@@ -25,32 +27,34 @@ returns : tie.Need-returns
 returns c =
     let s = c .before .before .before .before .before .before .before in
     let r = c .before .before .before .before .read in
-    drawn-refused (s .args .text .now) (s .args .image .now) (r .result) (r .ensures) (c .before .before .before .number-of .ensures) (c .before .before .line-of .ensures) (c .before .if1 .taken) (c .packed .ensures)
+    drawn-refused (s .args .version) (s .args .text .now) (s .args .image .now) (r .result) (r .ensures) (c .before .before .before .number-of .ensures) (c .before .before .line-of .ensures) (c .before .if1 .taken) (c .packed .ensures)
 
-write-requires : tie.Need-write-requires
-write-requires c κs = search needs
+write-version-requires : tie.Need-write-version-requires
+write-version-requires c κs = search needs
 
 packed-requires-2 : tie.Need-packed-requires-2
 packed-requires-2 c κs =
-    let w = c .before .before .write .ensures in
+    let w = c .before .before .write-version .ensures in
     let e = c .before .before .before .before in
     let s = e .before .before .before .before .before .before in
     let r = e .before .before .before .read in
     let room = length (s .args .image .now) in
-    (omega (arith, w .number, answer-small (r .result .parts) room), omega (arith, w .length, count-small (s .args .text .now) (s .args .image .now) (r .result) (r .ensures) room (sym (e .before .before .number-of .ensures) ∙ e .if1 .left)))
+    let whole = inVersion (s .args .version) (r .result .parts) in
+    (omega (arith, w .number, answer-small whole room), omega (arith, w .length, length-beside-short whole room))
 
 same-length : tie.Need-same-length
 same-length c = search needs
 
 returns-2 : tie.Need-returns-2
 returns-2 c =
+    let w = c .before .before .before .write-version .ensures in
     let e = c .before .before .before .before .before in
     let s = e .before .before .before .before .before .before in
     let r = e .before .before .before .read in
-    drawn-written (s .args .text .now) (s .args .image .now) (r .result) (r .ensures) (sym (e .before .before .number-of .ensures) ∙ e .if1 .left) (c .before .before .before .write .ensures) (c .packed2 .ensures)
+    drawn-written (s .args .version) (s .args .text .now) (s .args .image .now) (r .result) (r .ensures) (sym (e .before .before .number-of .ensures) ∙ e .if1 .left) w (omega (arith, w .length, length-beside-short (inVersion (s .args .version) (r .result .parts)) (length (s .args .image .now)))) (c .packed2 .ensures)
 
-pub krtovalin-image-spec : {M : Type 1} → statement M
-krtovalin-image-spec =
+pub draw-spec : {M : Type 1} → statement M
+draw-spec =
     tie.close
     (tie.spec
     read-requires
@@ -58,7 +62,7 @@ krtovalin-image-spec =
     line-of-requires
     packed-requires
     returns
-    write-requires
+    write-version-requires
     packed-requires-2
     same-length
     returns-2)
