@@ -1,19 +1,20 @@
--- How the call's promise is kept: by the reader's answer alone, or by the writer's after it; and a version that has no room in the image is answered as the
--- one that it is kept as. Assumes nothing.
+-- How the call's promise is kept: by the reader's answer alone, or by the writer's after it; and a version that is too large for its field is answered as what
+-- is kept of it. Assumes nothing.
 use mathlib.Core.Path.{_≡_, refl, sym, _∙_}
 use mathlib.Core.Bool.{Bool, true, false, cond}
 use mathlib.Core.List.{List}
 use mathlib.Core.Logic.{⊎-elim}
-use Prim.Native.Nat.{ℕ, _+_, _*_, _≤_, _<_, min}
+use Prim.Native.Nat.{ℕ, _+_, _*_, _≤_, _<_}
 use native.Mathlib.Omega.{arith}
 use lib.Dec.{eqb}
 use lib.ListN.{length}
 use borrow.Author.Tests.{eq-eqb, ne-eqb}
 use Rattle.units.specs.Table.{between}
 use Rattle.units.proofs.Integers.{decideN}
-use Rattle.image.specs.Parts.{version1, version2, versionMost, inVersion}
+use Rattle.image.specs.Parts.{version1, version2, inVersion}
 use Rattle.image.proofs.Versions.{none-above}
 use Rattle.netlist.specs.Answer.{numberOf, lineOf, Answers}
+use Rattle.netlist.specs.Kept.{mostByte, byte}
 use Rattle.netlist.specs.declared.reader.Answer.{Answer}
 use Rattle.writing.specs.Writes.{bufferBeside, Writes}
 use Rattle.writing.specs.declared.writer.Written.{Written}
@@ -48,7 +49,7 @@ module _ (version : ℕ) (text before : List ℕ) (a : Answer) (answers : Answer
         buffer = rw yes (writes .buffer);
       }
 
--- ---- versions without room in the image
+-- ---- versions that are too large for their field
 
 module _ (before : List ℕ) (v : ℕ) (none : between version1 version2 v ≡ false) (a : Answer) where
   -- no version of those that there are not writes anything
@@ -82,9 +83,9 @@ none-alike text before v u p q x =
     }
 
 -- and a version is answered as what is kept of it
-pub drawn-kept : (version : ℕ) (text before : List ℕ) {r : ℕ} {after : List ℕ} → Drawn (min version versionMost) text before r after → Drawn version text before r after
+pub drawn-kept : (version : ℕ) (text before : List ℕ) {r : ℕ} {after : List ℕ} → Drawn (byte version) text before r after → Drawn version text before r after
 drawn-kept version text before x =
     ⊎-elim
-    (λ (h : version ≤ versionMost). let e : min version versionMost ≡ version = omega arith in rw e at x)
-    (λ (h : versionMost < version). none-alike text before (min version versionMost) version (none-above (min version versionMost) (omega arith)) (none-above version (omega arith)) x)
-    (decideN version versionMost)
+    (λ (h : version ≤ mostByte). let e : byte version ≡ version = omega arith in rw e at x)
+    (λ (h : mostByte < version). none-alike text before (byte version) version (none-above (byte version) (omega arith)) (none-above version (omega arith)) x)
+    (decideN version mostByte)

@@ -37,7 +37,7 @@ fn draw(version: u8, text: &[u8], image: &mut [u8]) -> u64
 pub extern "C" fn krtovalin_image_version(version: u32, text: &[u8], image: &mut [u8]) -> u64
     ensures { λ r. ⌜ Drawn version (now (text .entry)) (now (image .entry)) r (now (image .exit)) ⌝ }
 {
-    draw(image::version_kept(version as u64), text, image)
+    draw(netlist::narrow(version), text, image)
 }
 
 // Writes the image of a netlist in version 2, for a tool that asks for none.

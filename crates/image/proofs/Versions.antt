@@ -1,12 +1,13 @@
 -- What the version is to a circuit's parts: the rules look at nothing of it but whether there is such a version, and their network has its leak. Assumes
 -- nothing.
 use mathlib.Core.Path.{_≡_, refl, sym, _∙_, ap}
-use mathlib.Core.Bool.{Bool, true, false, _&&_}
+use mathlib.Core.Bool.{true, false}
 use Prim.Native.Nat.{ℕ, _<_}
 use lib.Dec.{leb}
 use borrow.Author.Tests.{le-leb, lt-leb}
 use Rattle.units.specs.Table.{between}
 use Rattle.units.specs.declared.number.Number.the-variants as number
+use Rattle.units.proofs.Every.{and-no}
 use Rattle.image.specs.Conductance.{conductancesFit}
 use Rattle.image.specs.Judged.{judged}
 use Rattle.image.specs.Meaning.{leakOf, branchAt, networkAt}
@@ -50,10 +51,6 @@ version-passes version parts e done =
   where
     header : HeaderSays parts
     header = header-says parts (judged-keeps parts done .header)
-
-and-no : (b : Bool) → (b && false) ≡ false
-and-no true = refl
-and-no false = refl
 
 -- in one that there is not they are 2, whatever else is wrong
 pub version-refused : (version : ℕ) (parts : Parts) → between version1 version2 version ≡ false → judged (inVersion version parts) ≡ number.Trailer

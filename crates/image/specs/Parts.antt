@@ -32,10 +32,6 @@ version1 = 1
 abbrev pub version2 : ℕ
 version2 = 2
 
--- the greatest number that the image has room for as a version
-abbrev pub versionMost : ℕ
-versionMost = 255
-
 -- ---- elements and curves as far as the counts reach
 
 -- what stands past the counts: zeros

@@ -28,7 +28,6 @@ pub use parts::Parts;
 pub use parts::in_version;
 pub use parts::no_curve;
 pub use parts::no_parts;
-pub use parts::version_kept;
 pub use reader::Opened;
 pub use reader::read;
 pub use verdict::judge;

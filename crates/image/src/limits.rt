@@ -27,9 +27,6 @@ pub const VERSION_1: u8 = 1;
 
 pub const VERSION_2: u8 = 2;
 
-// The greatest number that the image has room for as a version.
-pub const VERSION_MOST: u64 = 255;
-
 // The greatest conductance and slope, in nanosiemens, and the greatest size of a breakpoint, in
 // microvolts.
 pub const CONDUCTANCE: u64 = 1073741824;

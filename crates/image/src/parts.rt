@@ -1,9 +1,7 @@
 // A circuit's parts, in the widths of the image, so that a copy is small. Places past a count, and
 // slopes and breakpoints past a curve's own, mean nothing; the reader leaves zeros there.
-use super::limits;
 ghost use mathlib.Core.Path.{_≡_};
-ghost use Prim.Native.Nat.{min};
-ghost use Rattle.image.specs.Parts.{noElement, noCurve, noParts, versionMost, inVersion};
+ghost use Rattle.image.specs.Parts.{noElement, noCurve, noParts, inVersion};
 
 pub struct Element {
     // Resistor, capacitor, inductor or diode.
@@ -77,17 +75,6 @@ pub fn no_parts() -> Parts
         curve_count: 0,
         curves: [no_curve; 8],
     }
-}
-
-// A version that was given in a wider number. One that has no room is kept as the greatest, which is
-// refused as it would be, and is not cut to its lower bits.
-pub fn version_kept(version: u64) -> u8
-    ensures { λ r. ⌜ r ≡ min version versionMost ⌝ }
-{
-    if version < limits::VERSION_MOST {
-        return version as u8;
-    }
-    limits::VERSION_MOST as u8
 }
 
 // Parts, taken for those of a version.

@@ -12,7 +12,7 @@ use lib.ListN.{getD, List·getD-map}
 use borrow.Author.Tests.{leb-true, ltb-true, eqb-true, lt-leb, le-ltb, ne-eqb}
 use Rattle.units.specs.Table.{every}
 use Rattle.units.specs.declared.number.Number.{Number}
-use Rattle.units.proofs.Every.{both, between-says, every-says, every-same}
+use Rattle.units.proofs.Every.{both, and-no, between-says, every-says, every-same}
 use Rattle.units.proofs.Integers.{decideN}
 use Rattle.units.proofs.Sizes.{abs-neg}
 use Rattle.network.specs.Kind.{hasCurve}
@@ -38,11 +38,6 @@ kept-test test most n fails =
     ⊎-elim (λ (h : most ≤ n). fails (min n most) (omega arith) ∙ sym (fails n h))
     (λ (h : n < most). rw (fits n most (omega arith)))
     (decideN most n)
-
--- a test beside one that fails
-and-no : (a : Bool) → a && false ≡ false
-and-no true = refl
-and-no false = refl
 
 -- two tests, the second of which is only asked where the first passes
 and-same : {a b c d : Bool} → a ≡ b → (b ≡ true → c ≡ d) → a && c ≡ b && d

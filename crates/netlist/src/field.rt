@@ -69,7 +69,7 @@ pub fn size(s: &[u8], at: usize) -> u64
     least(number::worth_at(s, at), MOST_SIZE)
 }
 
-// A number that was held to four bytes, held to one.
+// A number of four bytes, as a field of one.
 pub fn narrow(n: u32) -> u8
     ensures { λ r. ⌜ r ≡ byte n ⌝ }
 {

@@ -7,6 +7,8 @@ mod line;
 mod reader;
 mod said;
 
+pub use field::byte;
+pub use field::narrow;
 pub use reader::Answer;
 pub use reader::Verdict;
 pub use reader::line_of;

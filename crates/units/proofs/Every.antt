@@ -14,6 +14,11 @@ pub both : {a b : Bool} → a && b ≡ true → (a ≡ true) × (b ≡ true)
 both {a = true} e = (refl, e)
 both {a = false} e = absurd (false≢true e)
 
+-- a test beside one that fails
+pub and-no : (b : Bool) → b && false ≡ false
+and-no true = refl
+and-no false = refl
+
 pub between-says : (low high n : ℕ) → between low high n ≡ true → (low ≤ n) × (n ≤ high)
 between-says low high n e =
     let t = both {a = leb low n} {b = leb n high} e in

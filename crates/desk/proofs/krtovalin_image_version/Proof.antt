@@ -11,8 +11,8 @@ use Rattle.desk.proofs.krtovalin_image_version.Tie as tie
 drawn-of : {version kept : ℕ} {text before after : List ℕ} {r : ℕ} → version ≡ kept → Drawn version text before r after → Drawn kept text before r after
 drawn-of e d = rw e at d
 
-version-kept-requires : tie.Need-version-kept-requires
-version-kept-requires c κs = search needs
+narrow-requires : tie.Need-narrow-requires
+narrow-requires c κs = search needs
 
 draw-requires : tie.Need-draw-requires
 draw-requires c κs = search needs
@@ -21,8 +21,8 @@ same-length : tie.Need-same-length
 same-length c = search needs
 
 returns : tie.Need-returns
-returns c = drawn-kept _ _ _ (drawn-of (c .before .before .before .before .version-kept .ensures) (c .before .before .draw .ensures))
+returns c = drawn-kept _ _ _ (drawn-of (c .before .before .before .before .narrow .ensures) (c .before .before .draw .ensures))
 
 pub krtovalin-image-version-spec : {M : Type 1} → statement M
 krtovalin-image-version-spec =
-    tie.close (tie.spec version-kept-requires draw-requires same-length returns)
+    tie.close (tie.spec narrow-requires draw-requires same-length returns)
