@@ -13,7 +13,7 @@ use units::voltage::Voltage;
 
 // What is asked: a sample at these voltages with these stored currents, or what the circuit is by
 // itself.
-#[derive(Drop)]
+#[derive(Clone, Copy)]
 pub struct Question {
     pub sample: bool,
     pub volts: [i64; 16],

@@ -3,6 +3,8 @@
 // current, every node's net current, and the stored currents after it. The file `stdout` has what
 // should come, from bench/circuit/model.py, which is written from documents 01 and 02 and not from this
 // code.
+#![tactic(auto)]
+
 mod ask;
 mod cases;
 mod run;

@@ -4,7 +4,7 @@ ghost use Rattle.std.specs.Prelude.{◌≤◌};
 use units::signed;
 
 // The first half of the digits, in bytes.
-#[derive(Drop)]
+#[derive(Clone, Copy)]
 pub struct Image {
     pub bytes: [u8; 1400],
     pub digits: usize,
@@ -68,7 +68,7 @@ pub fn hex(s: &[u8]) -> Image {
 
 // Numbers with spaces between them: those that are read, which one is being read, and its digits so
 // far.
-#[derive(Drop)]
+#[derive(Clone, Copy)]
 struct Partial {
     values: [i64; 32],
     at: usize,

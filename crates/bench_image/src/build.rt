@@ -4,7 +4,7 @@ ghost use Rattle.std.specs.Prelude.{◌<◌};
 use std::num::wrapping_add_usize as plus;
 
 // The first n of the bytes.
-#[derive(Drop)]
+#[derive(Clone, Copy)]
 pub struct Image {
     pub bytes: [u8; 1400],
     pub n: usize,

@@ -3,6 +3,8 @@
 // bench/image/model.py, which is written from documents 01 and 02 and not from this code.
 //
 // An image stands in a struct by value, so that another is made from a good one by a call.
+#![tactic(auto)]
+
 mod build;
 mod cases;
 mod damage;

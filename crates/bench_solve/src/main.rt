@@ -3,6 +3,8 @@
 // has what should come, from the second program and not from this code (bench/solve/model.py). Before
 // them come document 01's own cases and refusals, sample by sample, with document 01's numbers where it
 // has them.
+#![tactic(auto)]
+
 mod document;
 mod play;
 

@@ -1,5 +1,7 @@
 // Runs the conversions, quotients and byte readers of `units` at the places where they could go wrong,
 // and writes what comes of each; the file `stdout` has what should.
+#![tactic(auto)]
+
 ghost use Rattle.std.specs.Prelude.{◌≤◌};
 ghost use Rattle.units.specs.Voltage.{voltage_limit};
 

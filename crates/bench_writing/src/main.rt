@@ -2,6 +2,8 @@
 // the number and the length are written as eight bytes each, and then the buffer as it is after the call.
 // bench/writing holds them against the second program's; the file `stdout` has the second program's for
 // the limits.
+#![tactic(auto)]
+
 mod record;
 
 ghost use Rattle.std.specs.Prelude.{◌≡◌, ◌≤◌, length};

@@ -7,13 +7,13 @@ use crate::{play, state};
 use units::number::Number;
 
 // What a circuit keeps from one block to the next: the stored currents of its elements, in femtoamperes.
-#[derive(Drop)]
+#[derive(Clone, Copy)]
 pub struct State {
     pub currents: [i64; 32],
 }
 
 // What comes back: document 01's number, how many samples were accepted, and the state after them.
-#[derive(Drop)]
+#[derive(Clone, Copy)]
 pub struct Played {
     pub number: u64,
     pub count: u64,

@@ -1,4 +1,6 @@
 // The block: any image, stored currents, lengths and samples get an answer or document 01's number.
+#![tactic(auto)]
+
 mod call;
 mod drives;
 mod lengths;

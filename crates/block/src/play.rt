@@ -14,7 +14,7 @@ use units::number;
 use units::number::Number;
 
 // What comes of an image: document 01's number, up to 6, and the parts if that is 0.
-#[derive(Drop)]
+#[derive(Clone, Copy)]
 pub struct Admission {
     pub number: u64,
     pub parts: Parts,

@@ -5,6 +5,8 @@
 // before it: no free node is lower by B microvolts or more, and none is higher. Of a run, whose stored
 // currents drift from another's, it says nothing, nor of a circuit that is not this network: one
 // without the leak, with conductances between whole nanosiemens, or with curves that aren't straight.
+#![tactic(auto)]
+
 mod answer;
 
 use libc::STDOUT_FILENO;

@@ -22,7 +22,7 @@ pub fn is_kept(x: i64) -> bool
 
 // What came of an advance: all stored currents are the new ones, or one of those would be beyond its
 // limit and all are as they were.
-#[derive(Drop)]
+#[derive(Clone, Copy)]
 pub enum Advanced {
     Stored,
     Beyond,

@@ -7,7 +7,7 @@ use crate::{board, node};
 use units::signed;
 
 // The least bound, or none where there is no free node or it does not fit.
-#[derive(Drop)]
+#[derive(Clone, Copy)]
 pub enum Bound {
     Least(u64),
     Nothing,

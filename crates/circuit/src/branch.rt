@@ -10,7 +10,7 @@ use stretch::curve;
 use units::signed;
 
 // Which end of an element a node is.
-#[derive(Drop)]
+#[derive(Clone, Copy)]
 pub enum End {
     P,
     Q,

@@ -8,7 +8,7 @@ use super::words::Run;
 use units::signed;
 
 // What a text spells: no number, one that is 2^63 or more in size, or this one.
-#[derive(Drop)]
+#[derive(Clone, Copy)]
 pub enum Spelt {
     Nothing,
     Beyond,

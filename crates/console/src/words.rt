@@ -4,7 +4,7 @@ ghost use Rattle.console.specs.Words.{is_blank, is_digit, is_naming, belongs, le
 
 // Blanks between words; a word; a line up to its end; what a line says up to its comment; the digits
 // of a number; a name.
-#[derive(Drop)]
+#[derive(Clone, Copy)]
 pub enum Run {
     Blanks,
     Word,

@@ -7,7 +7,7 @@ use console::words::Run;
 use console::{number, words};
 
 // What a line says: nothing, the two numbers of a pair, or something else.
-#[derive(Drop)]
+#[derive(Clone, Copy)]
 pub enum Line {
     Empty,
     Pair(i64, i64),

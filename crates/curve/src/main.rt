@@ -2,6 +2,8 @@
 // microvolts and femtoamperes. Writes the slopes and the breakpoints of each, or `refused R`. No
 // contract can say what is read or written, so this file is there to be read: what the lines are is
 // promised by `answer::put`.
+#![tactic(auto)]
+
 mod answer;
 mod line;
 mod pairs;

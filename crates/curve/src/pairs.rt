@@ -13,7 +13,7 @@ use measured::{Ending, Measured};
 
 // The pairs that the lines so far have told. They are whole no more once a line was something else,
 // or there were more pairs than a curve is made from.
-#[derive(Drop)]
+#[derive(Clone, Copy)]
 struct Kept {
     whole: bool,
     count: usize,

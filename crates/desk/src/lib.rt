@@ -1,6 +1,8 @@
 // A netlist's text to its image in one call, for a tool on a licensee's desk that is written in C:
 // include/krtovalin_image.h says how to call it. Takes any text, any version and any buffer, and a
 // refusal writes nothing.
+#![tactic(auto)]
+
 ghost use Rattle.std.specs.Prelude.{◌≡◌, ◌+◌, ◌*◌, ◌<◌};
 ghost use Rattle.image.specs.Parts.{version2};
 ghost use Rattle.desk.specs.Drawn.{number_unit, Drawn};

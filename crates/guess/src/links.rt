@@ -9,7 +9,7 @@ ghost use Rattle.std.specs.Prelude.{◌<◌, ◌≤◌};
 use crate::notes;
 
 // The rows of two sets that a link joins, and what it weighs: both are the same for none.
-#[derive(Drop)]
+#[derive(Clone, Copy)]
 pub struct Link {
     pub one: usize,
     pub other: usize,

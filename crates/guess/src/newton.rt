@@ -13,7 +13,7 @@ use units::voltage::Voltage;
 
 // How a guess ended. The first two carry the largest net current that remains at a free node, at the
 // voltages that are proposed.
-#[derive(Drop)]
+#[derive(Clone, Copy)]
 pub enum Ending {
     Settled(f64),
     Spent(f64),
@@ -143,7 +143,7 @@ fn go(board: &[u64; 293], part: f64, x: &mut [f64; 15], volts: &mut [i64; 16]) -
 
 // What came of the rounds: every curve is on the line that was solved with, which makes the solution
 // exact; or one isn't; or there was nothing to solve with.
-#[derive(Drop)]
+#[derive(Clone, Copy)]
 pub enum Came {
     Held,
     Open,

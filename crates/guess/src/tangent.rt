@@ -10,7 +10,7 @@ use network::kind;
 use stretch::{curve, stretches};
 
 // The current at the voltage v is slope × v + at_zero.
-#[derive(Drop)]
+#[derive(Clone, Copy)]
 pub struct Tangent {
     pub slope: f64,
     pub at_zero: f64,

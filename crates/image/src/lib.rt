@@ -1,5 +1,7 @@
 // The image: bytes to a circuit's parts, or the number of the rule that they break. Reads any bytes
 // whatever and writes nothing. A curve is read from the part of the lent image that it is.
+#![tactic(auto)]
+
 mod conductances;
 mod curve;
 mod element;

@@ -3,7 +3,7 @@
 ghost use Rattle.std.specs.Prelude.{◌≡◌};
 ghost use Rattle.image.specs.Parts.{no_element, no_curve, no_parts, in_version};
 
-#[derive(Drop)]
+#[derive(Clone, Copy)]
 pub struct Element {
     // Resistor, capacitor, inductor or diode.
     pub kind: u8,
@@ -16,7 +16,7 @@ pub struct Element {
     pub value: u32,
 }
 
-#[derive(Drop)]
+#[derive(Clone, Copy)]
 pub struct Curve {
     // How many breakpoints there are; there is one slope more.
     pub count: u8,
@@ -24,7 +24,7 @@ pub struct Curve {
     pub breakpoints: [i32; 16],
 }
 
-#[derive(Drop)]
+#[derive(Clone, Copy)]
 pub struct Parts {
     pub version: u8,
     // Nodes besides ground, how many of them are driven, and which is heard.

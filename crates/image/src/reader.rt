@@ -12,7 +12,7 @@ use super::{curve, element, limits, parts, rules, trailer};
 use units::number::Number;
 
 // The number, and the parts if the image is opened; zeros if not.
-#[derive(Drop)]
+#[derive(Clone, Copy)]
 pub struct Opened {
     pub number: Number,
     pub parts: Parts,

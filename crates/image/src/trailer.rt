@@ -8,7 +8,7 @@ use super::{field, limits, parts, rules};
 use units::bytes;
 
 // The layout's own fields.
-#[derive(Drop)]
+#[derive(Clone, Copy)]
 pub struct Trailer {
     // From the trailer's first byte back to the first element, and to the first curve byte.
     pub element_distance: usize,

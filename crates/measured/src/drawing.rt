@@ -10,7 +10,7 @@ use units::signed;
 
 // Whether a list became a curve, or what stands against it: a rule of the pairs, or a slope that no
 // curve may have.
-#[derive(Drop)]
+#[derive(Clone, Copy)]
 pub enum Ending {
     Drawn,
     Pairs,
@@ -18,7 +18,7 @@ pub enum Ending {
 }
 
 // The ending, and the curve: zeros beside a refusal.
-#[derive(Drop)]
+#[derive(Clone, Copy)]
 pub struct Measured {
     pub ending: Ending,
     pub curve: Curve,

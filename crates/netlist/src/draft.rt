@@ -8,7 +8,7 @@ use super::said::{Field, Line};
 use image::{Curve, Element, Parts};
 
 // The parts, and whether `drives`, `output` and `rate` have been said.
-#[derive(Drop)]
+#[derive(Clone, Copy)]
 pub struct Draft {
     pub parts: Parts,
     pub drives: bool,
@@ -17,7 +17,7 @@ pub struct Draft {
 }
 
 // What is wrong with a line: nothing, that it is outside the grammar, or its value.
-#[derive(Drop)]
+#[derive(Clone, Copy)]
 pub enum Fault {
     Nothing,
     Grammar,

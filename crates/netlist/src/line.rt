@@ -15,7 +15,7 @@ use network::kind;
 use ohms::{Found, Worth};
 
 // A resistor, another element by its kind, a setting, a curve, or none of these.
-#[derive(Drop)]
+#[derive(Clone, Copy)]
 enum Opener {
     Empty,
     Resistor,

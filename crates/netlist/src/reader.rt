@@ -12,7 +12,7 @@ use units::number::Number;
 
 // How the reading ended: the parts were judged by the rules, which may have let them pass; a line is
 // outside the grammar; a line's value is outside its limits. Lines count from 1.
-#[derive(Drop)]
+#[derive(Clone, Copy)]
 pub enum Verdict {
     Judged(Number),
     Grammar(usize),
@@ -20,7 +20,7 @@ pub enum Verdict {
 }
 
 // The verdict, and the parts if they passed; zeros if not.
-#[derive(Drop)]
+#[derive(Clone, Copy)]
 pub struct Answer {
     pub verdict: Verdict,
     pub parts: Parts,

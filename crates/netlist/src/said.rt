@@ -5,7 +5,7 @@ ghost use Rattle.netlist.specs.Line.{just};
 use image::{Curve, Element};
 
 // What a circuit has one of.
-#[derive(Drop)]
+#[derive(Clone, Copy)]
 pub enum Field {
     Drives,
     Output,
@@ -14,7 +14,7 @@ pub enum Field {
 
 // Nothing that the grammar has; nothing; an element, a stage of whose value is outside the limits; an
 // element; a setting; a curve, which stands beside it.
-#[derive(Drop)]
+#[derive(Clone, Copy)]
 pub enum Line {
     Broken,
     Empty,
@@ -24,7 +24,7 @@ pub enum Line {
     Curve,
 }
 
-#[derive(Drop)]
+#[derive(Clone, Copy)]
 pub struct Said {
     pub line: Line,
     pub curve: Curve,

@@ -5,7 +5,7 @@ ghost use Rattle.netlist_main.specs.Asked.{asked_of};
 use console::words;
 use console::words::Run;
 
-#[derive(Drop)]
+#[derive(Clone, Copy)]
 pub enum Asked {
     Nothing,
     Version(u8),

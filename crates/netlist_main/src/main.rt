@@ -5,6 +5,8 @@
 // file is `-` or not named. No contract can say what is read or written, so this file and file.rt are
 // there to be read: what the lines are is promised by the crate report and by `refusal::put`, which
 // version is asked for by `asked::version`, and what the image is by the crate writing.
+#![tactic(auto)]
+
 mod asked;
 mod file;
 mod refusal;

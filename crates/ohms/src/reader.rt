@@ -11,7 +11,7 @@ use console::words::Run;
 use console::{number, words};
 
 // What stands at a place: no value, or one, with the place after it and the blanks that follow it.
-#[derive(Drop)]
+#[derive(Clone, Copy)]
 pub enum Found {
     Nothing,
     Value(usize, Worth),

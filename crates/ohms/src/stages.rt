@@ -4,14 +4,14 @@ ghost use Rattle.ohms.specs.Worth.{together, stage, joined};
 ghost use Rattle.ohms.specs.declared.stages.Sign.TheVariants.{Bars};
 
 // A whole number within the limits of a value, or one that some stage left.
-#[derive(Drop)]
+#[derive(Clone, Copy)]
 pub enum Worth {
     Within(u32),
     Outside,
 }
 
 // In series, and in parallel.
-#[derive(Drop)]
+#[derive(Clone, Copy)]
 pub enum Sign {
     Plus,
     Bars,

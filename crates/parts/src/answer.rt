@@ -10,7 +10,7 @@ use units::number;
 use units::number::Number;
 
 // The number that refuses the image, a node count that no netlist has, or a netlist.
-#[derive(Drop)]
+#[derive(Clone, Copy)]
 pub enum Outcome {
     Refused(u64),
     Unnamed(u64),
@@ -18,7 +18,7 @@ pub enum Outcome {
 }
 
 // The outcome, and the parts if the image was opened; zeros if not.
-#[derive(Drop)]
+#[derive(Clone, Copy)]
 pub struct Answer {
     pub outcome: Outcome,
     pub parts: Parts,

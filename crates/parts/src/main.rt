@@ -2,6 +2,8 @@
 // parts in the version that its first line says; or `unnamed N`, where the image has N nodes and a netlist, whose node count is the highest node
 // that it names, would have fewer; or `refused R`. No contract can say what is read or written, so this
 // file is there to be read: what the lines are is promised by `beginning::put` and `curve::put`.
+#![tactic(auto)]
+
 mod answer;
 mod beginning;
 mod curve;

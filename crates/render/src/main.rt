@@ -1,6 +1,8 @@
 // Renders circuits: of each two arguments the first names an image, the second its drives. Writes a line
 // for each sample, and then how it ended. No contract can say what is read or written, so this file is
 // there to be read: what the lines are is promised by `rendering`.
+#![tactic(auto)]
+
 ghost use Rattle.std.specs.Prelude.{◌≤◌};
 
 use block::State;
@@ -11,7 +13,7 @@ use rendering::Turn;
 const ENOUGH: u64 = 4611686018427387904;
 
 // What came of a block, and whether its lines were written.
-#[derive(Drop)]
+#[derive(Clone, Copy)]
 struct Step {
     turn: Turn,
     written: bool,
@@ -19,7 +21,7 @@ struct Step {
 
 // Document 01's number, 0 where every sample was accepted, how many were, over all blocks, and whether
 // all lines were written.
-#[derive(Drop)]
+#[derive(Clone, Copy)]
 struct Finish {
     number: u64,
     count: u64,

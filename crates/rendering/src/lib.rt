@@ -1,4 +1,6 @@
 // Rendering, on slices: drives that were read become lines of text in a lent buffer, a block at a time.
+#![tactic(auto)]
+
 mod ending;
 mod lines;
 mod turn;

@@ -8,7 +8,7 @@ use block::State;
 
 // What came of a block: document 01's number, how many samples were accepted, where their lines end,
 // and the state after them.
-#[derive(Drop)]
+#[derive(Clone, Copy)]
 pub struct Turn {
     pub number: u64,
     pub count: u64,

@@ -1,5 +1,7 @@
 // What the programs write of a circuit, as text in a lent buffer: its parts, its nodes, and a curve;
 // and what such lines are made of.
+#![tactic(auto)]
+
 mod curve;
 mod fields;
 mod nodes;

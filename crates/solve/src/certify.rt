@@ -16,7 +16,7 @@ use units::signed;
 use units::voltage::Voltage;
 
 // What came of one node: it was back, it waits still, or it goes back.
-#[derive(Drop)]
+#[derive(Clone, Copy)]
 pub enum Stance {
     Back,
     Waits,
@@ -24,7 +24,7 @@ pub enum Stance {
 }
 
 // What came of one lap of the nodes: all are back, no node that waits may go back, or some went.
-#[derive(Drop)]
+#[derive(Clone, Copy)]
 pub enum Lap {
     Through,
     Sticks,
@@ -32,7 +32,7 @@ pub enum Lap {
 }
 
 // What came of the whole visit: nothing higher is low, or something is.
-#[derive(Drop)]
+#[derive(Clone, Copy)]
 pub enum Verdict {
     Highest,
     Higher,

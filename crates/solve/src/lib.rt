@@ -1,5 +1,7 @@
 // The exact search: the highest voltages of a sample, or that there are none. It keeps the net current
 // of every node beside the voltages.
+#![tactic(auto)]
+
 mod answer;
 mod certify;
 mod climb;

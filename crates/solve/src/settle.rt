@@ -18,7 +18,7 @@ use units::voltage::Voltage;
 
 // What came of a step or a sweep: no net current above zero, voltages lower than before, or that
 // there is nothing below them in range.
-#[derive(Drop)]
+#[derive(Clone, Copy)]
 pub enum Fall {
     Still,
     Lower,
@@ -26,7 +26,7 @@ pub enum Fall {
 }
 
 // What a search downwards ends with: voltages, or that there are none in range.
-#[derive(Drop)]
+#[derive(Clone, Copy)]
 pub enum Rest {
     Found,
     Nothing,

@@ -1,5 +1,5 @@
 -- A voltage brought into range is in range, and one that is there stays. Assumes nothing.
-use Rattle.std.proofs.Common.{◌≡◌, ℕ, ◌≤◌, Bool, true, false, cond, ℤ, pos, neg_ℤ, nat_abs, refl, arith, le-leb, leb-true}
+use Rattle.std.proofs.Common.{◌≡◌, Bool, true, false, cond, ℤ, pos, neg_ℤ, nat_abs, refl, arith, le-leb, leb-true}
 use lib.Signed.{lt_z}
 use Rattle.units.specs.Voltage.{within, voltage_limit, InRange, clamped}
 

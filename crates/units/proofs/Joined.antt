@@ -1,5 +1,5 @@
 -- Numbers in bytes that are put together from two parts, a and b: what is read from a part, or written into it, is so in the whole. Assumes nothing.
-use Rattle.std.proofs.Common.{◌≡◌, ℕ, zero, suc, ◌+◌, ◌*◌, ◌/◌, ◌%◌, ◌<◌, ◌≤◌, List, [], ◌∷◌, ◌++◌, length, set, refl, ap, ◌∙◌, suc-add, zero-add, arith, length-set, get_or-append-add}
+use Rattle.std.proofs.Common.{◌≡◌, ℕ, zero, suc, ◌+◌, ◌/◌, ◌%◌, ◌≤◌, List, [], ◌∷◌, ◌++◌, length, set, refl, ap, suc-add, zero-add, arith, length-set, get_or-append-add}
 use lib.ListN.{get_or-append}
 use lib.Seq.{set-append_left}
 use Rattle.units.specs.Bytes.{little_endian, written}

@@ -1,6 +1,6 @@
 -- Laws of `little_endian` and `written`, each once over the number of bytes: two parts make a whole, what was written is read
 -- back, and every other byte stays. Assumes nothing.
-use Rattle.std.proofs.Common.{◌≡◌, ℕ, zero, suc, ◌+◌, ◌-◌, ◌*◌, ◌/◌, ◌%◌, ◌^◌, ◌<◌, ◌≤◌, ◌⊎◌, List, length, get_or, set, ℤ, pos, negsuc, sym, refl, ap, ◌∙◌, inl, inr, ⊎_elim, add-zero, mod-eq_of_lt, mul_assoc, mul_comm, suc-add, mul-le-mul_left, one-mul, zero-add, mul-add, div-one, add-one, arith, length-set, get_or-set_other, get_or-set_same, pow-add, to_z-of_z, w64, SFits, to_z, of_z}
+use Rattle.std.proofs.Common.{◌≡◌, ℕ, zero, suc, ◌+◌, ◌-◌, ◌*◌, ◌/◌, ◌%◌, ◌^◌, ◌<◌, ◌≤◌, ◌⊎◌, List, length, get_or, set, ℤ, pos, negsuc, sym, refl, ap, ◌∙◌, inl, inr, ⊎_elim, add-zero, mod-eq_of_lt, mul_assoc, mul_comm, suc-add, mul-le-mul_left, one-mul, zero-add, mul-add, div-one, arith, length-set, get_or-set_other, get_or-set_same, pow-add, to_z-of_z, w64, SFits, to_z, of_z}
 use native.Mathlib.Nat.{pow-succ', pow-zero, mod-one, div-div-eq-div-mul}
 use lib.Arith.{mod-mul}
 use lib.Pow.{not_mod}

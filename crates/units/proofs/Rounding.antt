@@ -1,17 +1,16 @@
 -- From a float to the nearest voltage: what `nearest_size` asks and gives, what the tests of `from_f64` say, and that every voltage in
 -- range comes back. Assumes nothing.
-use Rattle.std.proofs.Common.{◌≡◌, ℕ, zero, suc, ◌+◌, ◌-◌, ◌*◌, ◌/◌, ◌^◌, ◌<◌, ◌≤◌, min, Bool, true, false, ◌&&◌, T, ltb, ℤ, pos, negsuc, neg_ℤ, nat_abs, refl, ap, true≢false, mul_assoc, mul_comm, div-lt_iff_lt-mul, lt_of_mul-lt-mul_right, mul-lt-mul_of_pos_right, mul-pos, le-div_iff_mul-le, mul_left_comm, arith, lt→ltb, ltb-false, ltb-true, eq-eqb, eqb-true, le-leb}
+use Rattle.std.proofs.Common.{◌≡◌, ℕ, suc, ◌+◌, ◌-◌, ◌*◌, ◌/◌, ◌^◌, ◌<◌, ◌≤◌, min, Bool, true, false, ◌&&◌, T, ℤ, pos, negsuc, neg_ℤ, refl, ap, true≢false, mul_assoc, mul_comm, div-lt_iff_lt-mul, lt_of_mul-lt-mul_right, mul-lt-mul_of_pos_right, mul-pos, le-div_iff_mul-le, mul_left_comm, arith, lt→ltb, ltb-false, ltb-true, eq-eqb, eqb-true, le-leb}
 use mathlib.Core.Bool.{false≢true}
 use native.Mathlib.Nat.{div-eq_of_lt}
 use borrow.Author.Tests.{lt-leb}
-use lib.Ieee.{Float, nan, inf, fin, binary64, up, down, round, add, neg, fits, lt, eq, of_int, to_unsigned}
+use lib.Ieee.{Float, nan, inf, fin, binary64, up, down, add, neg, fits, lt, eq, of_int, to_unsigned}
 use lib.Ieee.Exact.{HasValue}
 use lib.Ieee.Back.{round_whole}
 use lib.Ieee.Fits.{down_pos}
 use Rattle.units.specs.Voltage.{voltage_limit, InRange}
 use Rattle.units.specs.Ratio.{nearest_ratio}
 use Rattle.units.specs.Float.{Exactly, signed, rounded, nearest_voltage, Positive, nearest_size}
-use Rattle.units.specs.declared.voltage.Nearest.{Nearest}
 use Rattle.units.specs.declared.voltage.Nearest.TheVariants.{At, Nothing}
 use Rattle.units.proofs.RatioLaws.{nearest_says}
 use Rattle.units.proofs.Sizes.{abs_neg}

@@ -6,13 +6,13 @@ ghost use Rattle.units.specs.Float.{Converted, Positive, nearest_size, rounded, 
 
 use super::signed;
 
-#[derive(Drop)]
+#[derive(Clone, Copy)]
 pub struct Voltage {
     pub microvolts: i64,
 }
 
 // What an f64 is as a voltage: the nearest one, or none.
-#[derive(Drop)]
+#[derive(Clone, Copy)]
 pub enum Nearest {
     At(Voltage),
     Nothing,

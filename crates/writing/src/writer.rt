@@ -8,7 +8,7 @@ use image::Parts;
 use units::number;
 
 // Document 02's number, and the image's length; 0 beside a refusal.
-#[derive(Drop)]
+#[derive(Clone, Copy)]
 pub struct Written {
     pub number: u64,
     pub length: usize,
