@@ -1,0 +1,21 @@
+use mathlib.Core.Path.{◌≡◌, sym, ◌∙◌, ap}
+use lib.ListN.{get_or}
+use borrow.Author.Rules.{rules}
+use Rattle.units.proofs.Tables.{get_d_any}
+use Rattle.units.proofs.Every.{every_none, every_more, every_fails}
+use Rattle.image.specs.Parts.{no_curve, curve_size_fits}
+use Rattle.image.specs.declared.parts.Curve.{Curve}
+use Rattle.image.proofs.rules.curve_sizes_fit.Goals as goal
+
+pub loop-k-init : goal.loop-k-init
+loop-k-init c = (search rules, every_none _)
+
+pub returns-then-not-curve_size_fits : goal.returns-then-not-curve_size_fits
+returns-then-not-curve_size_fits c =
+    let same : c.curve_size_fits.result ≡ curve_size_fits (get_or c.args.curves c.loop-k.k no_curve).count = c.curve_size_fits.ensures ∙ ap (λ (c : Curve). curve_size_fits c.count) (get_d_any c.args.curves c.loop-k.k _ no_curve (search rules)) in
+    sym (every_fails _ _ c.loop-k.k c.loop-k-test.true (sym same ∙ c.if-not-curve_size_fits.true))
+
+pub loop-k-preserved : goal.loop-k-preserved
+loop-k-preserved c =
+    let same : c.curve_size_fits.result ≡ curve_size_fits (get_or c.args.curves c.loop-k.k no_curve).count = c.curve_size_fits.ensures ∙ ap (λ (c : Curve). curve_size_fits c.count) (get_d_any c.args.curves c.loop-k.k _ no_curve (search rules)) in
+    (search rules, every_more _ _ c.loop-k.invariant.1 (sym same ∙ c.if-not-curve_size_fits.false))
