@@ -1,17 +1,16 @@
 -- What the advance of stored currents rests on. Assumes nothing.
-use mathlib.Core.Path.{◌≡◌, refl, sym, ◌∙◌, ap}
+use mathlib.Core.Path.{◌≡◌, refl, ◌∙◌}
 use mathlib.Core.List.{List}
 use mathlib.Core.Logic.{⊎_elim}
 use Prim.Native.Nat.{ℕ, ◌+◌, ◌*◌, ◌^◌, ◌≤◌, ◌<◌}
 use native.Mathlib.Omega.{arith}
 use lib.IntN.{ℤ, pos, nat_abs, ◌*ℤ◌, ◌-ℤ◌}
-use lib.ListN.{length, get_or, set, length-set}
+use lib.ListN.{length, set, length-set}
 use lib.Seq.{get_or-set_same, get_or-set_other}
 use borrow.Author.Tests.{ne_eqb}
-use Rattle.units.specs.Voltage.{Within}
 use Rattle.units.proofs.Integers.{decide_n}
 use Rattle.units.proofs.Sizes.{abs_mul}
-use Rattle.network.specs.Network.{conductance_of, advance, next, reading, conductance_limit, breakpoint_limit, stored_limit}
+use Rattle.network.specs.Network.{advance, next, reading, conductance_limit}
 use Rattle.network.proofs.Ranges.{conductance_of_small, product_fits}
 use Rattle.network.specs.Kind.{capacitor_kind, inductor_kind}
 use Rattle.circuit.specs.Board.{count_on, kind_on, branch_on, network_on, across_on, plain_conductance, Laid, Ranged}
