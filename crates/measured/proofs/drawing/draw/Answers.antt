@@ -1,6 +1,5 @@
 use mathlib.Core.Path.{sym, ◌∙◌, ◌≡◌}
-use mathlib.Core.Bool.{true}
-use Prim.Native.Nat.{suc, ◌<◌, ◌+◌, ◌-◌}
+use Prim.Native.Nat.{suc, ◌<◌, ◌+◌}
 use native.Mathlib.Numerals.{add-one}
 use native.Mathlib.Omega.{arith}
 use lib.ListN.{length}

@@ -1,9 +1,6 @@
 use mathlib.Core.Path.{sym, ◌∙◌}
-use mathlib.Core.Bool.{true}
-use Prim.Native.Nat.{◌-◌}
 use borrow.Author.Rules.{rules}
 use Rattle.units.proofs.Every.{every_none, every_more, every_fails}
-use Rattle.measured.specs.Measured.{follows}
 use Rattle.measured.proofs.pairs.all_follow.Goals as goal
 
 pub loop-j-init : goal.loop-j-init
