@@ -20,7 +20,6 @@ use Rattle.network.specs.Network.{reading, breakpoint_count_limit, conductance_l
 use Rattle.image.specs.Judged.{judged}
 use Rattle.image.specs.Parts.{no_element, no_curve, no_parts, element_of, curve_of, header_fits, curve_size_fits, curve_sizes_fit, slope_fits, breakpoint_fits, rises, curve_fits, curves_fit, elements_fit}
 use Rattle.image.specs.declared.parts.Curve.{Curve}
-use Rattle.image.specs.declared.parts.Element.{Element}
 use Rattle.image.specs.declared.parts.Parts.{Parts}
 use Rattle.image.proofs.Judging.{judged_keeps}
 use Rattle.image.proofs.Places.{element_there, curve_there}

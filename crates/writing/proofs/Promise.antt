@@ -5,7 +5,7 @@ use mathlib.Core.Path.{◌≡◌, refl, sym, ◌∙◌, ap}
 use mathlib.Core.Bool.{Bool, true, false, ◌&&◌, cond}
 use mathlib.Core.List.{List, ◌++◌}
 use mathlib.Core.Logic.{◌↔◌}
-use Prim.Native.Nat.{ℕ, ◌+◌, ◌*◌, ◌-◌, ◌≤◌, ◌<◌}
+use Prim.Native.Nat.{ℕ, ◌+◌, ◌*◌, ◌≤◌, ◌<◌}
 use native.Mathlib.Omega.{arith}
 use lib.ListN.{length, get_or, take, drop}
 use lib.Seq.{take-append_seam}
@@ -26,7 +26,6 @@ use Rattle.image.proofs.Judging.{Keeps, judged_keeps, keeps_judged, judged_sound
 use Rattle.image.proofs.Opening.{opened_kept, opened_0}
 use Rattle.image.proofs.Versions.{own_version, version_refused}
 use Rattle.image.specs.declared.parts.Parts.{Parts}
-use Rattle.image.specs.declared.parts.Curve.{Curve}
 use Rattle.writing.specs.Accepted.{Accepted, number_for, image_number}
 use Rattle.writing.specs.Image.{curve_bytes, elements_bytes, curves_bytes, image_of}
 use Rattle.writing.specs.Reached.{reached, InWidths}

@@ -17,7 +17,6 @@ use Rattle.units.proofs.Tables.{padded_at}
 use Rattle.network.specs.Network.{branch_limit}
 use Rattle.image.specs.Asked.{CurveThere}
 use Rattle.image.specs.Parts.{curve_limit, no_element, element_of, curve_of, header_fits, curve_sizes_fit, curves_fit}
-use Rattle.image.specs.Curve as layout
 use Rattle.image.specs.Curve.{breakpoints_at, curve_length, start_from, padding_fits}
 use Rattle.image.specs.Format.{element_size, trailer_size, trailer_of, header_of, element_at, curve_start, curve_bytes_at, parts_of, trailer_fits, sizes_fit, curve_bytes_fit}
 use Rattle.image.proofs.Curves.{curve_is, curve_whole, curve_length_lem}
