@@ -1,0 +1,14 @@
+use mathlib.Core.Path.{◌≡◌}
+use Prim.Native.Nat.{ℕ, ◌+◌, ◌-◌, ◌≤◌, ◌<◌}
+use lib.IntN.{ℤ}
+use Rattle.network.specs.Network.{reading}
+use Rattle.circuit.specs.Board.{driven_on}
+use Rattle.solve.specs.Search.{Changed}
+use Rattle.solve.specs.Answer.{seat_of}
+use Rattle.solve.proofs.answer.seat.Given as goal
+
+abbrev pub invariant-loop-i : goal.invariant-loop-i
+invariant-loop-i l = (driven_on l.board < l.i) × (l.i ≤ l.nodes + 1) × Changed (λ (j : ℕ) (u : ℤ). u ≡ seat_of l.top (reading l.given j)) l.board l.initial.volts l.volts l.i
+
+abbrev pub decreases-loop-i : goal.decreases-loop-i
+decreases-loop-i l = l.nodes + 1 - l.i

@@ -1,0 +1,9 @@
+use Prim.Native.Nat.{◌-◌, ◌^◌, ◌≤◌}
+use Rattle.solve.specs.Search.{Searching, Down}
+use Rattle.solve.proofs.leap.leaps.Given as goal
+
+abbrev pub invariant-loop-m : goal.invariant-loop-m
+invariant-loop-m l = (1 ≤ l.m) × (l.m ≤ 2 ^ 27) × Searching l.board l.stretches l.stored l.volts l.nets × Down l.board l.stretches l.stored l.initial.volts l.volts
+
+abbrev pub decreases-loop-m : goal.decreases-loop-m
+decreases-loop-m l = 2 ^ 27 - l.m

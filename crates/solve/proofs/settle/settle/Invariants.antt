@@ -1,0 +1,11 @@
+use Rattle.network.specs.Network.{reading}
+use Rattle.network.specs.Search.{height}
+use Rattle.circuit.specs.Board.{network_on}
+use Rattle.solve.specs.Search.{Searching, Down}
+use Rattle.solve.proofs.settle.settle.Given as goal
+
+abbrev pub invariant-loop-sweeps : goal.invariant-loop-sweeps
+invariant-loop-sweeps l = Searching l.board l.stretches l.stored l.volts l.nets × Down l.board l.stretches l.stored l.initial.volts l.volts
+
+abbrev pub decreases-loop-sweeps : goal.decreases-loop-sweeps
+decreases-loop-sweeps l = height (network_on l.board l.stretches) (reading l.volts)
