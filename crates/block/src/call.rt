@@ -43,10 +43,9 @@ pub fn block(image: &[u8], state: State, n: u64, drives: &[u8], outputs: &mut [u
     }
 }
 
-// The block for a host written in C: include/krtovalin.h says how to call it. The image comes first, so
-// that how long a state has to be may depend on it.
-#[unsafe(no_mangle)]
-pub extern "C" fn krtovalin_block(
+// The block for a host written in C, which calls it by the crate block_c: include/krtovalin.h says how. The image comes
+// first, so that how long a state has to be may depend on it.
+pub fn krtovalin_block(
     image: &[u8],
     state: &mut [u8],
     n: u64,

@@ -1,6 +1,6 @@
-// A netlist's text to its image in one call, for a tool on a licensee's desk that is written in C:
-// include/krtovalin_image.h says how to call it. Takes any text, any version and any buffer, and a
-// refusal writes nothing.
+// A netlist's text to its image in one call, for a tool on a licensee's desk that is written in C, which
+// calls it by the crate desk_c: include/krtovalin_image.h says how. Takes any text, any version and any
+// buffer, and a refusal writes nothing.
 #![tactic(auto)]
 
 ghost use Rattle.std.specs.Prelude.{◌≡◌, ◌+◌, ◌*◌, ◌<◌};
@@ -34,16 +34,14 @@ fn draw(version: u8, text: &[u8], image: &mut [u8]) -> u64
 }
 
 // Writes the image of a netlist in the version that is asked for, which may be any number.
-#[unsafe(no_mangle)]
-pub extern "C" fn krtovalin_image_version(version: u32, text: &[u8], image: &mut [u8]) -> u64
+pub fn krtovalin_image_version(version: u32, text: &[u8], image: &mut [u8]) -> u64
     ensures { Drawn version text.now image.old result image.new }
 {
     draw(netlist::narrow(version), text, image)
 }
 
 // Writes the image of a netlist in version 2, for a tool that asks for none.
-#[unsafe(no_mangle)]
-pub extern "C" fn krtovalin_image(text: &[u8], image: &mut [u8]) -> u64
+pub fn krtovalin_image(text: &[u8], image: &mut [u8]) -> u64
     ensures { Drawn version2 text.now image.old result image.new }
 {
     draw(image::VERSION_2, text, image)
