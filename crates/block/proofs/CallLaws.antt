@@ -1,8 +1,7 @@
 -- The packed answer taken apart, and the state's bytes afterwards. Assumes nothing.
 use mathlib.Core.Path.{◌≡◌, refl, sym, ◌∙◌, ap, subst}
-use mathlib.Core.Bool.{true}
-use mathlib.Core.List.{List, []}
-use Prim.Native.Nat.{ℕ, zero, suc, ◌+◌, ◌*◌, ◌/◌, ◌%◌, ◌<◌}
+use mathlib.Core.List.{List}
+use Prim.Native.Nat.{ℕ, zero, suc, ◌*◌, ◌/◌, ◌%◌}
 use native.Mathlib.Omega.{arith}
 use lib.IntN.{ℤ}
 use lib.ListN.{length}
@@ -10,12 +9,9 @@ use borrow.Author.Tests.{ne_eqb}
 use Rattle.units.specs.Number.{number_of}
 use Rattle.units.specs.declared.number.Number.TheVariants as number
 use Rattle.network.specs.Network.{Network}
-use Rattle.image.specs.Conductance.{conductances_fit}
-use Rattle.image.specs.Format.{opening_of, opened}
 use Rattle.image.specs.Meaning.{network_at}
 use Rattle.image.specs.Setting.{plain}
-use Rattle.image.specs.declared.parts.Parts.{Parts}
-use Rattle.block.specs.Block.{places, StateLegal, PlaysOn, state-refused, Plays, plays-on}
+use Rattle.block.specs.Block.{places, StateLegal, PlaysOn, state-refused, plays-on}
 use Rattle.block.specs.Call.{state_size, state_in, bytes_with, bytes_after, Packed, Called}
 use Rattle.block.specs.Playing.{Admits, state_of}
 use Rattle.block.specs.declared.call.State.{State}

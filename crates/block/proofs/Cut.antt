@@ -1,9 +1,8 @@
 -- Blocks can be cut anywhere: n samples, then m from the state that came back, are n + m samples. Assumes nothing.
 use mathlib.Core.Path.{◌≡◌, refl, sym, ◌∙◌, ap, subst}
-use mathlib.Core.Bool.{Bool, true, false}
 use mathlib.Core.List.{List, ◌++◌}
-use mathlib.Core.Logic.{◌⊎◌, inl, inr, ⊎_elim}
-use Prim.Native.Nat.{ℕ, zero, suc, ◌+◌, ◌*◌, ◌≤◌, ◌<◌}
+use mathlib.Core.Logic.{⊎_elim}
+use Prim.Native.Nat.{ℕ, suc, ◌+◌, ◌*◌, ◌≤◌, ◌<◌}
 use native.Mathlib.Omega.{arith}
 use native.Mathlib.Nat.{add-zero, add-suc, mul-le-mul_right}
 use lib.IntN.{ℤ, pos}
@@ -13,11 +12,9 @@ use mir.Val.{to_z, of_z}
 use Rattle.units.specs.Bytes.{little_endian, written}
 use Rattle.units.proofs.Integers.{decide_n}
 use Rattle.units.proofs.Joined.{first_read, second_read, first_written, second_written}
-use Rattle.units.specs.Voltage.{Within}
-use Rattle.network.specs.Network.{nothing, Network, reading, stored_limit, advance, next}
-use Rattle.network.specs.Sample.{Outcome, accepted, answer_of, Gives, Accepted}
+use Rattle.network.specs.Network.{nothing, Network, reading, advance, next}
+use Rattle.network.specs.Sample.{Outcome, accepted, Gives, Accepted}
 use Rattle.network.proofs.Outcome.{gives_alike}
-use Rattle.image.specs.Format.{opening_of, opened}
 use Rattle.image.specs.Meaning.{network_at}
 use Rattle.image.specs.Setting.{plain}
 use Rattle.image.specs.declared.parts.Parts.{Parts}

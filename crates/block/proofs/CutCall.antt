@@ -1,7 +1,7 @@
 -- Blocks can be cut anywhere, as a host written in C sees it: what comes of two calls, the second with the bytes that the first left, is what comes of one. Assumes nothing.
 use mathlib.Core.Path.{◌≡◌, refl, sym, ◌∙◌, ap, subst}
 use mathlib.Core.List.{List, ◌++◌}
-use mathlib.Core.Logic.{◌⊎◌, inl, inr, ⊎_elim}
+use mathlib.Core.Logic.{inl, inr, ⊎_elim}
 use Prim.Native.Nat.{ℕ, zero, suc, ◌+◌, ◌*◌, ◌/◌, ◌%◌, ◌^◌, ◌≤◌, ◌<◌}
 use native.Mathlib.Omega.{arith}
 use native.Mathlib.Nat.{zero-add, add-zero, suc-add}
@@ -14,16 +14,16 @@ use borrow.Author.Tests.{eq-eqb}
 use Rattle.units.specs.Bytes.{little_endian, written}
 use Rattle.units.specs.Table.{tabulate}
 use Rattle.units.proofs.Integers.{decide_n}
-use Rattle.units.proofs.LittleEndian.{written_else, written_length, signed_read}
+use Rattle.units.proofs.LittleEndian.{written_else, signed_read}
 use Rattle.units.proofs.Machine.{fits_size}
 use Rattle.units.proofs.Tables.{tabulate-length, tabulate-at}
 use Rattle.network.specs.Network.{Network, reading}
 use Rattle.image.specs.Meaning.{network_at}
 use Rattle.image.specs.Setting.{plain}
-use Rattle.block.specs.Block.{places, StateLegal, Run, start, sample, PlaysOn, state-refused, lengths-refused, sample-refused, done, Plays, image-refused, conductance-refused, plays-on}
+use Rattle.block.specs.Block.{places, StateLegal, Run, start, sample, state-refused, lengths-refused, sample-refused, done, Plays, image-refused, conductance-refused, plays-on}
 use Rattle.block.specs.Call.{state_size, state_in, bytes_with, bytes_after, Called}
 use Rattle.block.specs.Cut.{CutFor}
-use Rattle.block.specs.Host.{number_in, count_in}
+use Rattle.block.specs.Host.{number_in}
 use Rattle.block.specs.declared.call.State.{State}
 use Rattle.block.proofs.CallLaws.{state_misfit}
 use Rattle.block.proofs.Cut.{goes_on, stops, legal_after}

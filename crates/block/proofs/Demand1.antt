@@ -5,7 +5,7 @@
 use mathlib.Core.Path.{◌≡◌, refl, ◌∙◌, ap}
 use mathlib.Core.List.{List}
 use mathlib.Core.Logic.{inr}
-use Prim.Native.Nat.{ℕ, ◌+◌, ◌*◌, ◌/◌, ◌%◌, ◌≤◌, ◌<◌}
+use Prim.Native.Nat.{ℕ, ◌*◌, ◌≤◌, ◌<◌}
 use native.Mathlib.Omega.{arith}
 use native.Mathlib.Nat.{mul-le-mul_right}
 use lib.IntN.{ℤ}
@@ -18,7 +18,7 @@ use Rattle.units.proofs.Numbers.{number_small}
 use Rattle.network.specs.Network.{Network}
 use Rattle.network.specs.Sample.{answer_of}
 use Rattle.image.proofs.Opening.{refused_early}
-use Rattle.block.specs.Block.{LengthsFit, Begins, Run, start, sample, state-refused, lengths-refused, sample-refused, done, Plays, image-refused, conductance-refused, plays-on}
+use Rattle.block.specs.Block.{LengthsFit, Run, start, sample, state-refused, lengths-refused, sample-refused, done, Plays, image-refused, conductance-refused, plays-on}
 use Rattle.block.specs.Call.{state_in, bytes_after, Called}
 use Rattle.block.specs.Host.{number_in, count_in}
 use Rattle.block.specs.declared.call.State.{State}

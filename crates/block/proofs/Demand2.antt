@@ -4,10 +4,10 @@
 -- "For each sample with legal drives the free nodes take the highest whole-microvolt voltages at which no free node's net outgoing current is above zero: Kirchhoff's current law with
 -- the trapezoidal companions of the published nodal DK method. The rail refusal comes exactly when no such voltages exist in range or the highest put a free node at the top. Number
 -- 11 comes exactly when the rail refusal doesn't and those voltages take a stored current past its limit. No guess changes an answer."
-use mathlib.Core.Path.{◌≡◌, refl, sym, ◌∙◌, ap}
+use mathlib.Core.Path.{◌≡◌, sym, ◌∙◌, ap}
 use mathlib.Core.List.{List}
-use mathlib.Core.Logic.{◌⊎◌, inl, inr, ⊎_elim}
-use Prim.Native.Nat.{ℕ, ◌+◌, ◌*◌, ◌/◌, ◌%◌, ◌≤◌, ◌<◌}
+use mathlib.Core.Logic.{◌⊎◌, inr, ⊎_elim}
+use Prim.Native.Nat.{ℕ, ◌+◌, ◌*◌, ◌≤◌, ◌<◌}
 use native.Mathlib.Omega.{arith}
 use lib.IntN.{ℤ, nat_abs}
 use Rattle.units.specs.Number.{number_of}

@@ -7,7 +7,7 @@
 -- "The same stored currents" are those before this sample, as the call has them. Of a run whose stored currents have drifted from another's nothing is said.
 use mathlib.Core.Path.{◌≡◌}
 use mathlib.Core.List.{List}
-use Prim.Native.Nat.{ℕ, ◌%◌, ◌≤◌, ◌<◌}
+use Prim.Native.Nat.{ℕ, ◌≤◌, ◌<◌}
 use lib.IntN.{ℤ}
 use Rattle.network.specs.Sample.{Accepted}
 use Rattle.network.specs.Bound.{Balances, Close}

@@ -4,12 +4,10 @@ use mathlib.Core.List.{List}
 use mathlib.Core.Logic.{◌⊎◌, inl, inr, ⊎_elim}
 use Prim.Native.Nat.{ℕ, suc, ◌+◌, ◌≤◌, ◌<◌}
 use native.Mathlib.Omega.{arith}
-use native.Mathlib.Numerals.{add-one, one-add}
 use lib.IntN.{ℤ, pos}
-use lib.ListN.{length, get_or, set, length-set}
+use lib.ListN.{length, set, length-set}
 use lib.Seq.{get_or-set_same, get_or-set_other}
 use Rattle.units.proofs.Integers.{decide_n}
-use Rattle.network.specs.Network.{reading}
 use Rattle.block.specs.Block.{drive_at}
 use Rattle.block.specs.Drives.{Placed}
 

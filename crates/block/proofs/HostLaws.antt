@@ -1,8 +1,8 @@
 -- What a host reads of a call: the sample that an output comes from, and the sample that a refusal speaks of. Assumes nothing.
-use mathlib.Core.Path.{◌≡◌, refl, sym, ◌∙◌, ap, subst}
+use mathlib.Core.Path.{◌≡◌, refl, ◌∙◌, ap, subst}
 use mathlib.Core.List.{List}
 use mathlib.Core.Logic.{◌⊎◌, inl, inr, ⊎_elim}
-use Prim.Native.Nat.{ℕ, zero, suc, ◌+◌, ◌*◌, ◌^◌, ◌≤◌, ◌<◌}
+use Prim.Native.Nat.{ℕ, zero, suc, ◌+◌, ◌*◌, ◌≤◌, ◌<◌}
 use native.Mathlib.Omega.{arith}
 use lib.IntN.{ℤ}
 use lib.ListN.{length, get_or}
@@ -17,8 +17,6 @@ use Rattle.units.proofs.Machine.{fits_half}
 use Rattle.network.specs.Network.{Network, Wired, reading}
 use Rattle.network.specs.Sample.{Outcome, accepted, driveRefused, railRefused, storedRefused, answer_of, Accepted, Gives}
 use Rattle.network.proofs.Ranges.{legal_in_range}
-use Rattle.image.specs.Meaning.{network_at}
-use Rattle.image.specs.Setting.{plain}
 use Rattle.image.specs.declared.parts.Parts.{Parts}
 use Rattle.image.proofs.Opening.{refused_early}
 use Rattle.block.specs.Block.{drive_at, Run, start, sample, RunOf, Refuses, PlaysOn, state-refused, lengths-refused, sample-refused, done, Plays, image-refused, conductance-refused, plays-on}

@@ -1,12 +1,12 @@
 -- A block has one outcome only: number, count, every stored current, every byte of outputs and of state. Assumes nothing.
 use mathlib.Core.Path.{◌≡◌, refl, sym, ◌∙◌, ap, subst}
-use mathlib.Core.Bool.{Bool, true, false}
+use mathlib.Core.Bool.{true, false}
 use mathlib.Core.List.{List}
-use mathlib.Core.Logic.{◌⊎◌, inl, inr, ⊎_elim}
-use Prim.Native.Nat.{ℕ, zero, suc, ◌+◌, ◌*◌, ◌≤◌, ◌<◌}
+use mathlib.Core.Logic.{inl, inr, ⊎_elim}
+use Prim.Native.Nat.{ℕ, ◌*◌, ◌≤◌, ◌<◌}
 use native.Mathlib.Omega.{arith}
 use lib.IntN.{ℤ, pos}
-use lib.ListN.{length, get_or}
+use lib.ListN.{length}
 use lib.Seq.{ext_get_or}
 use mir.Syntax.{w64}
 use mir.Val.{of_z}
@@ -15,14 +15,14 @@ use Rattle.units.specs.Number.{number_of}
 use Rattle.units.proofs.Integers.{decide_n}
 use Rattle.units.specs.declared.number.Number.{Number}
 use Rattle.network.specs.Network.{Network, reading, Wired}
-use Rattle.network.specs.Sample.{Outcome, accepted, answer_of, Gives, Same}
+use Rattle.network.specs.Sample.{Outcome, accepted, answer_of, Gives}
 use Rattle.network.proofs.Outcome.{one_outcome}
 use Rattle.image.specs.Conductance.{conductances_fit}
 use Rattle.image.specs.Format.{opening_of, opened, refused}
 use Rattle.image.specs.Meaning.{network_at}
 use Rattle.image.specs.Setting.{plain}
 use Rattle.image.specs.declared.parts.Parts.{Parts}
-use Rattle.block.specs.Block.{StateLegal, LengthsFit, Begins, Run, start, sample, RunOf, Refuses, PlaysOn, state-refused, lengths-refused, sample-refused, done, Plays, image-refused, conductance-refused, plays-on, drive_at}
+use Rattle.block.specs.Block.{Run, start, sample, RunOf, Refuses, PlaysOn, state-refused, lengths-refused, sample-refused, done, Plays, image-refused, conductance-refused, plays-on, drive_at}
 use Rattle.block.specs.Call.{state_in, bytes_after, Called}
 use Rattle.block.specs.declared.call.State.{State}
 use Rattle.block.proofs.PlayLaws.{parts_limits, parts_heard}

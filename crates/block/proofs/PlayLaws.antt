@@ -2,12 +2,11 @@
 use mathlib.Core.Path.{◌≡◌, refl, sym, ◌∙◌, ap, subst}
 use mathlib.Core.Bool.{true, false}
 use mathlib.Core.List.{List}
-use Prim.Native.Nat.{ℕ, ◌+◌, ◌*◌, ◌≤◌, ◌<◌}
+use Prim.Native.Nat.{ℕ, ◌*◌, ◌≤◌}
 use native.Mathlib.Omega.{arith}
 use lib.IntN.{ℤ}
 use lib.ListN.{length}
 use Rattle.units.specs.Number.{number_of}
-use Rattle.units.specs.declared.number.Number.{Number}
 use Rattle.units.specs.declared.number.Number.TheVariants as number
 use Rattle.units.proofs.Numbers.{number_small, done_only}
 use Rattle.network.specs.Network.{Network, InLimits}
@@ -15,7 +14,7 @@ use Rattle.network.specs.Sample.{answer_of}
 use Rattle.image.specs.Conductance.{conductances_fit}
 use Rattle.image.specs.Format.{Opening, opening_of, opened, refused}
 use Rattle.image.specs.Meaning.{network_at}
-use Rattle.image.specs.Opened.{number_in, parts_in, Read}
+use Rattle.image.specs.Opened.{number_in, Read}
 use Rattle.image.specs.Setting.{plain}
 use Rattle.image.specs.Sound.{Sound}
 use Rattle.image.specs.declared.parts.Parts.{Parts}
@@ -31,7 +30,6 @@ use Rattle.block.specs.Block.{drive_at, StateLegal, LengthsFit, PlaysOn, state-r
 use Rattle.block.specs.Call.{Packed}
 use Rattle.block.specs.Playing.{Admits, Room, state_of, Ran, all, short}
 use Rattle.block.specs.declared.call.State.{State}
-use Rattle.block.specs.declared.play.Admission.{Admission}
 
 -- ---- the image
 

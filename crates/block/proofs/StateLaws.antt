@@ -8,17 +8,16 @@ use native.Mathlib.Omega.{arith}
 use native.Mathlib.Numerals.{add-one}
 use lib.Dec.{eqb}
 use lib.IntN.{ℤ, pos}
-use lib.ListN.{length, get_or, set, length-set}
+use lib.ListN.{length, set, length-set}
 use lib.Seq.{ext_get_or, get_or-set_same, get_or-set_other}
 use borrow.Author.Tests.{eq-eqb}
 use mir.Syntax.{w64}
 use mir.Val.{to_z, of_z}
 use Rattle.units.specs.Bytes.{little_endian, written}
 use Rattle.units.specs.Table.{tabulate}
-use Rattle.units.specs.Voltage.{Within}
 use Rattle.units.proofs.Integers.{decide_n}
 use Rattle.units.proofs.LittleEndian.{written_length}
-use Rattle.network.specs.Network.{Store, nothing, capacitor, inductor, reading, stored_limit}
+use Rattle.network.specs.Network.{Store, nothing, capacitor, inductor, reading}
 use Rattle.network.specs.Kind.{capacitor_kind, inductor_kind, stores, store_of}
 use Rattle.units.proofs.Tables.{tabulate-length, tabulate-at}
 use Rattle.circuit.specs.Board.{kind_on, branch_on, network_on}
