@@ -49,7 +49,7 @@ def circuit(label, image):
 
 def table(text):
     """Three numbers at a time: what is done, where, and the value, as the comment above them says."""
-    numbers = [int(n) for n in re.findall(r'^    (\d+),$', text, re.M)]
+    numbers = [int(n) for line in re.findall(r'^    ([\d, ]+),$', text, re.M) for n in line.split(',')]
     for what, at, value in zip(numbers[::3], numbers[1::3], numbers[2::3]):
         new = struct.pack('<I', value) if what in (2, 4) else bytes([value])
         if what == 0:

@@ -48,13 +48,11 @@ pub fn word(i: Image, at: usize, v: u64) -> Image {
 // With the bytes of s from a place on.
 pub fn put(i: Image, at: usize, s: &[u8]) -> Image {
     let mut bytes = i.bytes;
-    let mut k: usize = 0;
-    while k < s.len() {
+    for k in 0..s.len() {
         let to = plus(at, k);
         if to < 1400 {
             bytes[to] = s[k];
         }
-        k += 1;
     }
     Image { bytes, n: i.n }
 }

@@ -3,6 +3,8 @@ ghost use Rattle.std.specs.Prelude.{◌<◌};
 
 use super::build::Image;
 use super::{build, show};
+use std::io;
+use std::io::Stdout;
 
 // How many there are.
 const COUNT: usize = 324;
@@ -129,17 +131,17 @@ const CASES: [u64; 972] = [
     0, 0, 1, 3, 32, 0, 1, 76, 0, 1, 77, 9, 1, 78, 0, 1, 79, 4, 1, 84, 0, 1, 85, 0, 1, 86, 15,
 ];
 
-fn good(which: u64) -> Image {
+fn good(out: Stdout, which: u64) -> io::Result<Image> {
     if which == 0 {
-        show::text(b"example:");
-        return build::example();
+        print!(out; "example:")?;
+        return Ok(build::example());
     }
     if which == 1 {
-        show::text(b"mixed:");
-        return build::mixed();
+        print!(out; "mixed:")?;
+        return Ok(build::mixed());
     }
-    show::text(b"largest:");
-    build::largest()
+    print!(out; "largest:")?;
+    Ok(build::largest())
 }
 
 // The image with one byte or four at a place.
@@ -150,27 +152,24 @@ fn changed(i: Image, wide: bool, at: u64, v: u64) -> Image {
     build::byte(i, at as usize, build::low(v))
 }
 
-fn change(at: u64, v: u64) {
-    show::one(at);
-    show::text(b"=");
-    show::bare(v);
-    show::text(b":");
+fn change(out: Stdout, at: u64, v: u64) -> io::Result<()> {
+    print!(out; " {at}={v}:")
 }
 
 // One case: the image for the next ones.
-fn case(i: Image, what: u64, at: u64, v: u64) -> Image {
+fn case(out: Stdout, i: Image, what: u64, at: u64, v: u64) -> io::Result<Image> {
     if what == 0 {
-        show::text(b"\n");
-        return good(v);
+        print!(out; "\n")?;
+        return good(out, v);
     }
     if what < 3 {
-        change(at, v);
-        show::bare(show::number(changed(i, what == 2, at, v)));
-        return i;
+        change(out, at, v)?;
+        print!(out; "{}", show::number(changed(i, what == 2, at, v)))?;
+        return Ok(i);
     }
-    show::text(b" with");
-    change(at, v);
-    changed(i, what == 4, at, v)
+    print!(out; " with")?;
+    change(out, at, v)?;
+    Ok(changed(i, what == 4, at, v))
 }
 
 fn entry(k: usize) -> u64
@@ -179,10 +178,10 @@ fn entry(k: usize) -> u64
     CASES[k]
 }
 
-pub fn run() {
+pub fn run(out: Stdout) -> io::Result<()> {
     let mut i = build::example();
     for k in 0..COUNT {
-        i = case(i, entry(3 * k), entry(3 * k + 1), entry(3 * k + 2));
+        i = case(out, i, entry(3 * k), entry(3 * k + 1), entry(3 * k + 2))?;
     }
-    show::text(b"\n");
+    print!(out; "\n")
 }

@@ -2,6 +2,8 @@
 // checksum of all numbers in turn.
 use super::build::Image;
 use super::{build, show};
+use std::io;
+use std::io::Stdout;
 use std::num::wrapping_add_u64;
 
 // The next of a row of numbers below 2^31.
@@ -67,11 +69,9 @@ fn later(x: u64) -> u64 {
     next(next(next(next(x))))
 }
 
-fn write(count: &[u64], sum: u64) {
-    show::row(count);
-    show::text(b" sum");
-    show::one(sum);
-    show::text(b"\n");
+fn write(out: Stdout, count: &[u64], sum: u64) -> io::Result<()> {
+    show::row(out, count)?;
+    println!(out; " sum {sum}")
 }
 
 // A damaged copy of a good image, or noise.
@@ -83,8 +83,8 @@ fn tried(i: Image, any: bool, x: u64) -> Image {
 }
 
 // `times` of them.
-pub fn tries(label: &[u8], i: Image, any: bool, times: usize) {
-    show::text(label);
+pub fn tries(out: Stdout, label: &str, i: Image, any: bool, times: usize) -> io::Result<()> {
+    print!(out; "{label}")?;
     let mut count = [0; 8];
     let mut sum: u64 = 0;
     let mut row: u64 = 1;
@@ -95,5 +95,5 @@ pub fn tries(label: &[u8], i: Image, any: bool, times: usize) {
         sum = checksum(sum, n);
         row = later(row);
     }
-    write(&count, sum);
+    write(out, &count, sum)
 }

@@ -2,36 +2,11 @@
 use super::build;
 use super::build::Image;
 use image::{Element, Parts};
-use libc::STDOUT_FILENO;
+use std::io;
+use std::io::Stdout;
 use std::num::wrapping_add_usize as plus;
+use units::number;
 use units::number::Number;
-use units::{number, signed};
-
-pub fn text(s: &[u8]) {
-    io::write_all(STDOUT_FILENO, s);
-}
-
-pub fn bare(n: u64) {
-    io::print_decimal(STDOUT_FILENO, n);
-}
-
-pub fn one(n: u64) {
-    text(b" ");
-    bare(n);
-}
-
-fn place(n: usize) {
-    one(n as u64);
-}
-
-fn one_signed(z: i64) {
-    if signed::less(z, 0) {
-        text(b" -");
-    } else {
-        text(b" ");
-    }
-    io::print_decimal(STDOUT_FILENO, signed::size(z));
-}
 
 // Document 01's number of the first n bytes of s.
 fn number_in(s: &[u8], n: usize) -> u64 {
@@ -67,99 +42,93 @@ pub fn number(i: Image) -> u64 {
 }
 
 // The number alone.
-pub fn plain(label: &[u8], i: Image) {
-    text(label);
-    one(number(i));
-    text(b"\n");
+pub fn plain(out: Stdout, label: &str, i: Image) -> io::Result<()> {
+    println!(out; "{label} {}", number(i))
 }
 
 // The numbers of an image that is cut to each length up to `most`.
-pub fn cuts(label: &[u8], i: Image, most: usize) {
-    text(label);
+pub fn cuts(out: Stdout, label: &str, i: Image, most: usize) -> io::Result<()> {
+    print!(out; "{label}")?;
     for n in 0..most {
-        one(number(build::cut(i, n)));
+        print!(out; " {}", number(build::cut(i, n)))?;
     }
-    plain(b" and whole", i);
+    plain(out, " and whole", i)
 }
 
 // The numbers of images with one curve of zeros that says that it has 0, 1, .., 18 breakpoints.
-pub fn bares(label: &[u8]) {
-    text(label);
+pub fn bares(out: Stdout, label: &str) -> io::Result<()> {
+    print!(out; "{label}")?;
     for m in 0..19usize {
-        one(number(build::bare(m)));
+        print!(out; " {}", number(build::bare(m)))?;
     }
-    text(b"\n");
+    print!(out; "\n")
 }
 
 // A row of numbers.
-pub fn row(v: &[u64]) {
-    let mut k: usize = 0;
-    while k < v.len() {
-        one(v[k]);
-        k += 1;
+pub fn row(out: Stdout, v: &[u64]) -> io::Result<()> {
+    for n in v {
+        print!(out; " {n}")?;
     }
+    Ok(())
 }
 
-fn element(e: Element, rate: u32) {
-    text(b"element");
-    one(e.kind as u64);
-    one(e.p as u64);
-    one(e.q as u64);
-    one(image::conductance(e.kind, e.value, rate));
-    one(e.curve as u64);
-    text(b"\n");
+fn element(out: Stdout, e: Element, rate: u32) -> io::Result<()> {
+    let nanosiemens = image::conductance(e.kind, e.value, rate);
+    println!(out;
+        "element {} {} {} {nanosiemens} {}",
+        e.kind, e.p, e.q, e.curve
+    )
 }
 
-fn slopes(s: &[u8], m: usize) {
-    text(b" slopes");
+fn slopes(out: Stdout, s: &[u8], m: usize) -> io::Result<()> {
+    print!(out; " slopes")?;
     for j in 0..m {
         if j < 100 {
             if 8 + 4 * j <= s.len() {
-                one(image::slope(s, j));
+                print!(out; " {}", image::slope(s, j))?;
             }
         }
     }
+    Ok(())
 }
 
-fn breakpoints(s: &[u8], m: usize) {
-    text(b" breakpoints");
+fn breakpoints(out: Stdout, s: &[u8], m: usize) -> io::Result<()> {
+    print!(out; " breakpoints")?;
     for j in 0..m {
-        breakpoint(s, j);
+        breakpoint(out, s, j)?;
     }
+    Ok(())
 }
 
-fn breakpoint(s: &[u8], j: usize) {
+fn breakpoint(out: Stdout, s: &[u8], j: usize) -> io::Result<()> {
     if 1 <= s.len() {
         let m = image::breakpoint_count(s);
         if j < 100 {
             if 12 + 4 * m + 4 * j <= s.len() {
-                one_signed(image::breakpoint(s, j));
+                print!(out; " {}", image::breakpoint(s, j))?;
             }
         }
     }
+    Ok(())
 }
 
 // A curve, read from the part of the image that it is.
-fn curve(c: &[u8], at: usize) {
+fn curve(out: Stdout, c: &[u8], at: usize) -> io::Result<()> {
     if 1 <= c.len() {
         let m = image::breakpoint_count(c);
-        text(b"curve at");
-        place(at);
-        text(b" of");
-        place(c.len());
-        slopes(c, m + 1);
-        breakpoints(c, m);
-        text(b"\n");
+        print!(out; "curve at {at} of {}", c.len())?;
+        slopes(out, c, m + 1)?;
+        breakpoints(out, c, m)?;
+        print!(out; "\n")?;
     }
+    Ok(())
 }
 
-fn head(leak: u64, p: Parts) {
-    one(leak);
-    one(p.nodes as u64);
-    one(p.driven as u64);
-    one(p.output as u64);
-    one(p.element_count as u64);
-    text(b"\n");
+fn head(out: Stdout, leak: u64, p: Parts) -> io::Result<()> {
+    println!(out;
+        " {leak} {} {} {} {}",
+        p.nodes, p.driven, p.output, p.element_count
+    )
 }
 
 // A refusal has no leak.
@@ -171,48 +140,54 @@ fn leak(number: Number, version: u8) -> u64 {
 }
 
 // The parts of the first n bytes of s, with their curves.
-fn parts(s: &[u8], n: usize) {
+fn parts(out: Stdout, s: &[u8], n: usize) -> io::Result<()> {
     if n <= s.len() {
         let t = &s[0..n];
         let o = image::read(t);
         let number = o.number;
         let p = o.parts;
-        head(leak(number, p.version), p);
-        elements(p);
-        curves(t, 8 * (p.element_count as usize), p.curve_count as usize);
+        head(out, leak(number, p.version), p)?;
+        elements(out, p)?;
+        curves(
+            out,
+            t,
+            8 * (p.element_count as usize),
+            p.curve_count as usize,
+        )?;
     }
+    Ok(())
 }
 
 // The array as a slice.
-fn parts_at(b: &[u8; 1400], n: usize) {
-    parts(b, n);
+fn parts_at(out: Stdout, b: &[u8; 1400], n: usize) -> io::Result<()> {
+    parts(out, b, n)
 }
 
 // The number, and the circuit.
-pub fn circuit(label: &[u8], i: Image) {
-    text(label);
-    one(number(i));
-    text(b":");
+pub fn circuit(out: Stdout, label: &str, i: Image) -> io::Result<()> {
+    print!(out; "{label} {}:", number(i))?;
     let bytes = i.bytes;
-    parts_at(&bytes, i.n);
+    parts_at(out, &bytes, i.n)
 }
 
-fn elements(p: Parts) {
+fn elements(out: Stdout, p: Parts) -> io::Result<()> {
     let n = p.element_count as usize;
     let rate = p.rate;
     for j in 0..n {
         if j < 32 {
-            element(p.elements[j], rate);
+            element(out, p.elements[j], rate)?;
         }
     }
+    Ok(())
 }
 
 // The curves lie one behind the other.
-fn curves(s: &[u8], first: usize, n: usize) {
+fn curves(out: Stdout, s: &[u8], first: usize, n: usize) -> io::Result<()> {
     let mut at = first;
     for k in 0..n {
         let c = image::curve_at(s, at);
-        curve(c, at);
+        curve(out, c, at)?;
         at = plus(at, c.len());
     }
+    Ok(())
 }
