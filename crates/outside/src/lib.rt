@@ -4,7 +4,7 @@
 // Whatever can't be had counts as empty: a program answers to no bytes as it does to any others.
 #![tactic(auto)]
 
-ghost use Rattle.std.specs.Prelude.{◌≤◌, length, take, IfSome};
+ghost use Rattle.std.specs.Prelude.{◌≡◌, ◌≤◌, length, take, IfSome};
 ghost use Rattle.std.specs.Io.KnownBytes.{Consumes};
 
 use std::env::FillError;
@@ -12,6 +12,21 @@ use std::fs::File;
 use std::io::Read;
 use std::rt::{Env, Files};
 use std::str;
+
+// 4,096 zeros, which hold any name, any image that is accepted, and the lines that are put together at
+// once.
+pub fn buffer() -> [u8; 4096]
+    ensures { length result ≡ 4096 }
+{
+    [0; 4096]
+}
+
+// 65,536 zeros, which hold any text that is read, and a block's drives or lines.
+pub fn large_buffer() -> [u8; 65536]
+    ensures { length result ≡ 65536 }
+{
+    [0; 65536]
+}
 
 // Argument i at the start of the buffer, and how long it is; nothing where there is no such argument.
 // One that is longer than the buffer counts as empty, since a name that is cut short names another file.
@@ -56,5 +71,100 @@ pub fn read(files: &impl Files, name: &[u8], buffer: &mut [u8]) -> usize
     match open(files, name) {
         Some(mut file) => fill(&mut file, buffer),
         None => 0,
+    }
+}
+
+#[cfg(test)]
+mod tests {
+    use super::*;
+    use std::io;
+
+    // Gives three bytes and then two, and fails from then on.
+    #[derive(Drop)]
+    struct Failing {
+        reads: u8,
+    }
+
+    impl Read for Failing {
+        fn read(&mut self, buffer: &mut [u8]) -> io::Result<usize> {
+            if buffer.len() < 3 {
+                return Ok(0);
+            }
+            buffer[0] = b'x';
+            buffer[1] = b'y';
+            buffer[2] = b'z';
+            match self.reads {
+                0 => {
+                    self.reads = 1;
+                    Ok(3)
+                }
+                1 => {
+                    self.reads = 2;
+                    Ok(2)
+                }
+                _ => Err(io::Error::other("no more")),
+            }
+        }
+    }
+
+    // The name and one argument, of five bytes.
+    struct Given;
+
+    impl Env for Given {
+        fn arg(&self, i: usize, buffer: &mut [u8]) -> Result<usize, FillError> {
+            if 2 <= i {
+                return Err(FillError::NotPresent);
+            }
+            if buffer.len() < 5 {
+                return Err(FillError::TooLong);
+            }
+            buffer[0] = b'g';
+            Ok(5)
+        }
+
+        fn var(&self, _name: &str, _buffer: &mut [u8]) -> Result<usize, FillError> {
+            Err(FillError::NotPresent)
+        }
+
+        fn var_at(&self, _i: usize, _buffer: &mut [u8]) -> Result<usize, FillError> {
+            Err(FillError::NotPresent)
+        }
+    }
+
+    #[test]
+    fn reads_up_to_a_failure(rt: HostRuntime) {
+        let mut buffer = [0u8; 8];
+        let mut input = Failing { reads: 0 };
+        let n = fill(&mut input, &mut buffer);
+        assert_eq!(rt; n, 5);
+        assert_eq!(rt; &buffer[..n], b"xyzxy".as_slice());
+    }
+
+    #[test]
+    fn reads_as_far_as_there_is_room(rt: HostRuntime) {
+        let mut buffer = [0u8; 4];
+        let mut input: &[u8] = b"abcdef";
+        assert_eq!(rt; fill(&mut input, &mut buffer), 4);
+        assert_eq!(rt; &buffer[..], b"abcd".as_slice());
+        assert_eq!(rt; fill(&mut input, &mut buffer), 2);
+        assert_eq!(rt; &buffer[..], b"efcd".as_slice());
+    }
+
+    #[test]
+    fn tells_arguments_apart(rt: HostRuntime) {
+        let mut buffer = [0u8; 5];
+        assert_eq!(rt; argument(&Given, 1, &mut buffer), Some(5));
+        assert_eq!(rt; argument(&Given, 1, &mut buffer[..4]), Some(0));
+        assert_eq!(rt; argument(&Given, 2, &mut buffer), None);
+    }
+
+    #[test]
+    fn reads_files(rt: HostRuntime) {
+        let mut bytes = buffer();
+        assert_eq!(rt; read(&rt, b"/dev/zero", &mut bytes), 4096);
+        assert_eq!(rt; read(&rt, b"/dev/null", &mut bytes), 0);
+        assert_eq!(rt; read(&rt, b"/nowhere/at all", &mut bytes), 0);
+        assert_eq!(rt; read(&rt, b"", &mut bytes), 0);
+        assert_eq!(rt; read(&rt, b"/dev/zero\xff", &mut bytes), 0);
     }
 }
