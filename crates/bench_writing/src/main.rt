@@ -8,7 +8,9 @@ mod record;
 
 ghost use Rattle.std.specs.Prelude.{◌≡◌, ◌≤◌, length};
 
-use libc::STDOUT_FILENO;
+use std::io;
+use std::io::Read;
+use std::rt::Files;
 use units::bytes;
 use writing::Written;
 
@@ -27,10 +29,10 @@ fn unwritten() -> [u8; record::LONG]
     buffer
 }
 
-fn write_number(n: u64) {
+fn write_number(out: &impl Print, n: u64) -> io::Result<()> {
     let mut eight = [0u8; 8];
     bytes::put_u64(&mut eight, 0, n);
-    io::write_all(STDOUT_FILENO, &eight);
+    out.write_all(&eight)
 }
 
 // Writes the image of a record's parts, in the version that is given, if one is.
@@ -46,44 +48,44 @@ fn write(raw: &[u8], buffer: &mut [u8]) -> Written
 }
 
 // Writes the image of a record's parts, and then the answer.
-fn answer(raw: &[u8])
+fn answer(out: &impl Print, raw: &[u8]) -> io::Result<()>
     requires { 1334 ≤ length raw.now }
 {
     let n = record::room(raw);
     let mut buffer = unwritten();
     let written = write(raw, &mut buffer[..n]);
-    write_number(written.number);
-    write_number(written.length as u64);
-    io::write_all(STDOUT_FILENO, &buffer[..n]);
+    write_number(out, written.number)?;
+    write_number(out, written.length as u64)?;
+    out.write_all(&buffer[..n])
 }
 
 // Record after record, up to one that is not whole.
-fn answers(file: i32) {
-    let mut done: u64 = 0;
-    while done < ENOUGH {
+fn answers(out: &impl Print, records: &mut impl Read) -> io::Result<()> {
+    for _ in 0..ENOUGH {
         let mut raw = [0u8; record::SIZE];
-        if io::read_full(file, &mut raw) < record::SIZE {
-            return;
+        if outside::fill(records, &mut raw) < record::SIZE {
+            break;
         }
-        answer(&raw);
-        done += 1;
+        answer(out, &raw)?;
+    }
+    Ok(())
+}
+
+// The answers to the file of this name. One that can't be read counts as empty.
+fn answer_file(rt: &(impl Files + Print), name: &[u8]) -> io::Result<()> {
+    match outside::open(rt, name) {
+        Some(mut file) => answers(rt, &mut file),
+        None => Ok(()),
     }
 }
 
-// The answers to the file that argument i names. One that can't be read counts as empty.
-fn answer_file(i: usize) {
-    let mut path = io::buffer();
-    let named = os::arg(i, &mut path);
-    let file = os::open_read(&path[..named]);
-    answers(file);
-    libc::close(file);
-}
-
-fn main() {
-    let count = os::arg_count();
-    let mut i: usize = 1;
-    while i < count {
-        answer_file(i);
-        i += 1;
+fn main(rt: HostRuntime) -> io::Result<()> {
+    for i in 1..usize::MAX {
+        let mut name = outside::buffer();
+        match outside::argument(&rt, i, &mut name) {
+            Some(n) => answer_file(&rt, &name[..n])?,
+            None => break,
+        }
     }
+    Ok(())
 }
