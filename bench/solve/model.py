@@ -13,7 +13,7 @@ import sys
 import tempfile
 
 PRIME = 1_000_000_007
-CALL = re.compile(r'play::(?:circuit|case)\(\s*(b"\w+"),\s*(b"[^"]+"),\s*([^;]*?),?\s*\);')
+CALL = re.compile(r'play::(?:circuit|case)\(\s*out,\s*"(\w+)",\s*(b"[^"]+"),\s*([^;?]*?),?\s*\)')
 
 
 class Second:
@@ -67,15 +67,15 @@ def case(second, name, image, at, x, drive):
 def read(call):
     """The name, the image and what else the call says, as words."""
     name, image, rest = call.groups()
-    return ast.literal_eval(name).decode(), ast.literal_eval(image), rest.replace(",", " ").split()
+    return name, ast.literal_eval(image), rest.replace(",", " ").split()
 
 
 def cases(second, text):
     """`document.rt`: functions of x and d, then their calls."""
     known = {}
-    for name, names, call in re.findall(r"^fn (\w+)\(([^)]*)\) \{\s*(play::case\(.*?\);)", text, re.M | re.S):
-        known[name] = re.findall(r"(\w+):", names), read(CALL.match(call))
-    for name, numbers in re.findall(r"^    (\w+)\(([-0-9, ]+)\);", text[text.index("pub fn cases"):], re.M):
+    for name, names, call in re.findall(r"^fn (\w+)\(([^)]*)\) -> io::Result<\(\)> \{\s*(play::case\(.*?\)\n\})", text, re.M | re.S):
+        known[name] = re.findall(r"(\w+): i64", names), read(CALL.match(call))
+    for name, numbers in re.findall(r"^    (\w+)\(out, ([-0-9, ]+)\)", text[text.index("pub fn cases"):], re.M):
         names, (label, image, words) = known[name]
         given = dict(zip(names, numbers.split(", ")))
         yield case(second, label, image, *(int(given.get(word, word)) for word in words))

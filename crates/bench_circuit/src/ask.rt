@@ -8,6 +8,8 @@ use super::show;
 use super::text::Image;
 use circuit::advance;
 use image::Parts;
+use std::io;
+use std::io::Stdout;
 use units::number::Number;
 use units::voltage::Voltage;
 
@@ -24,15 +26,13 @@ fn all_in_range(board: &[u64; 293], volts: &[i64; 16]) -> bool
     requires { nodes_on board.now < 16 }
     ensures { result ≡ true → Ranged board.now volts.now }
 {
-    let mut i: usize = 0;
-    while i < 16 {
+    for i in 0..16usize {
         let v = Voltage {
             microvolts: volts[i],
         };
         if !v.in_range() {
             return false;
         }
-        i += 1;
     }
     true
 }
@@ -41,75 +41,70 @@ fn all_kept(board: &[u64; 293], stored: &[i64; 32]) -> bool
     requires { count_on board.now ≤ 32 }
     ensures { result ≡ true → Kept board.now stored.now }
 {
-    let mut j: usize = 0;
-    while j < 32 {
+    for j in 0..32usize {
         if !advance::is_kept(stored[j]) {
             return false;
         }
-        j += 1;
     }
     true
 }
 
-fn of_board(board: &[u64; 293], stretches: &[i64; 408], q: Question)
+fn of_board(out: Stdout, board: &[u64; 293], stretches: &[i64; 408], q: Question) -> io::Result<()>
     requires { Ready board.now stretches.now }
 {
     let volts = q.volts;
     let mut stored = q.stored;
     if !q.sample {
-        show::circuit(board, stretches);
-        return;
+        return show::circuit(out, board, stretches);
     }
     if !all_in_range(board, &volts) {
-        show::text(b"  a voltage is out of range\n");
-        return;
+        return println!(out; "  a voltage is out of range");
     }
     if !all_kept(board, &stored) {
-        show::text(b"  a stored current is beyond its limit\n");
-        return;
+        return println!(out; "  a stored current is beyond its limit");
     }
-    show::sample(board, stretches, &volts, &mut stored);
+    show::sample(out, board, stretches, &volts, &mut stored)
 }
 
-fn refused() {
-    show::text(b"  the image is refused\n");
+fn refused(out: Stdout) -> io::Result<()> {
+    println!(out; "  the image is refused")
 }
 
-fn of_parts(parts: Parts, q: Question)
+fn of_parts(out: Stdout, parts: Parts, q: Question) -> io::Result<()>
     requires { Sound parts }
 {
     if !image::conductances_fit(parts) {
-        refused();
-        return;
+        return refused(out);
     }
     let mut stretches = [0i64; 408];
     opening::stretches(parts, &mut stretches);
     let board = opening::board(parts, &stretches);
-    of_board(&board, &stretches, q);
+    of_board(out, &board, &stretches, q)
 }
 
-fn of_bytes(image: &[u8], q: Question) {
+fn of_bytes(out: Stdout, image: &[u8], q: Question) -> io::Result<()> {
     let o = image::read(image);
     let number = o.number;
     match number {
-        Number::Done => of_parts(o.parts, q),
-        _ => refused(),
+        Number::Done => of_parts(out, o.parts, q),
+        _ => refused(out),
     }
 }
 
 // The first n bytes of s.
-fn of_part(s: &[u8], n: usize, q: Question) {
+fn of_part(out: Stdout, s: &[u8], n: usize, q: Question) -> io::Result<()> {
     if n <= s.len() {
-        of_bytes(&s[0..n], q);
+        return of_bytes(out, &s[0..n], q);
     }
+    Ok(())
 }
 
 // The array as a slice.
-fn of_array(b: &[u8; 1400], n: usize, q: Question) {
-    of_part(b, n, q);
+fn of_array(out: Stdout, b: &[u8; 1400], n: usize, q: Question) -> io::Result<()> {
+    of_part(out, b, n, q)
 }
 
-pub fn of(i: Image, q: Question) {
+pub fn of(out: Stdout, i: Image, q: Question) -> io::Result<()> {
     let bytes = i.bytes;
-    of_array(&bytes, i.digits / 2, q);
+    of_array(out, &bytes, i.digits / 2, q)
 }

@@ -2,315 +2,334 @@
 // says what should come.
 use super::run::{around, circuit, filled, noise, sample};
 use super::text::hex;
+use std::io;
+use std::io::Stdout;
 
 // Document 01's example: 1000 ohm from 1 to 2 and from 2 to ground, at each answer and one above.
-fn divider() {
+fn divider(out: Stdout) -> io::Result<()> {
     let i = hex(b"01010200E8030000 01020000E8030000 100000000200020180BB000002011000");
-    circuit(b"divider", i);
-    sample(i, b"0 0 0", b"");
-    sample(i, b"0 0 1", b"");
-    sample(i, b"0 1 0", b"");
-    sample(i, b"0 1 1", b"");
-    sample(i, b"0 -1 -1", b"");
-    sample(i, b"0 -1 0", b"");
-    sample(i, b"0 1000000 499999", b"");
-    sample(i, b"0 1000000 500000", b"");
-    sample(i, b"0 -1000000 -500000", b"");
-    sample(i, b"0 -1000000 -499999", b"");
+    circuit(out, b"divider", i)?;
+    sample(out, i, b"0 0 0", b"")?;
+    sample(out, i, b"0 0 1", b"")?;
+    sample(out, i, b"0 1 0", b"")?;
+    sample(out, i, b"0 1 1", b"")?;
+    sample(out, i, b"0 -1 -1", b"")?;
+    sample(out, i, b"0 -1 0", b"")?;
+    sample(out, i, b"0 1000000 499999", b"")?;
+    sample(out, i, b"0 1000000 500000", b"")?;
+    sample(out, i, b"0 -1000000 -500000", b"")?;
+    sample(out, i, b"0 -1000000 -499999", b"")
 }
 
 // 1000 ohm from 1 to 2 and 10,000 pF from 2 to ground, two samples.
-fn capacitor() {
+fn capacitor(out: Stdout) -> io::Result<()> {
     let i = hex(b"01010200E8030000 0202000010270000 100000000200020180BB000002011000");
-    circuit(b"resistor and capacitor", i);
-    sample(i, b"0 1000000 510203", b"");
-    sample(i, b"0 1000000 510204", b"");
-    sample(i, b"0 1000000 1009994", b"0 979589760000");
-    sample(i, b"0 1000000 1009995", b"0 979589760000");
+    circuit(out, b"resistor and capacitor", i)?;
+    sample(out, i, b"0 1000000 510203", b"")?;
+    sample(out, i, b"0 1000000 510204", b"")?;
+    sample(out, i, b"0 1000000 1009994", b"0 979589760000")?;
+    sample(out, i, b"0 1000000 1009995", b"0 979589760000")
 }
 
 // 1000 ohm from 1 to 2 and a diode from 2 to ground.
-fn diode() {
+fn diode(out: Stdout) -> io::Result<()> {
     let i = hex(
         b"01010200E8030000 0402000000000000 010000000000000080969800C0270900 200010000201020180BB000002011000",
     );
-    circuit(b"diode", i);
-    sample(i, b"0 1000000 636363", b"");
-    sample(i, b"0 1000000 636364", b"");
-    sample(i, b"0 500000 499999", b"");
-    sample(i, b"0 500000 500000", b"");
-    sample(i, b"0 -1000000 -1000000", b"");
-    sample(i, b"0 -1000000 -999999", b"");
+    circuit(out, b"diode", i)?;
+    sample(out, i, b"0 1000000 636363", b"")?;
+    sample(out, i, b"0 1000000 636364", b"")?;
+    sample(out, i, b"0 500000 499999", b"")?;
+    sample(out, i, b"0 500000 500000", b"")?;
+    sample(out, i, b"0 -1000000 -1000000", b"")?;
+    sample(out, i, b"0 -1000000 -999999", b"")
 }
 
 // 10,000 pF from the only node to ground, where its stored current nearly drives it out of range.
-fn alone() {
+fn alone(out: Stdout) -> io::Result<()> {
     let i = hex(b"0201000010270000 080000000100010080BB000001011000");
-    circuit(b"capacitor alone", i);
-    sample(i, b"0 33554431", b"32212288274431");
-    sample(i, b"0 33554432", b"32212288274431");
-    sample(i, b"0 33554431", b"32212288274432");
-    sample(i, b"0 33554432", b"32212288274432");
-    sample(i, b"0 -33554432", b"-32212288274432");
-    sample(i, b"0 -33554432", b"-32212288274433");
+    circuit(out, b"capacitor alone", i)?;
+    sample(out, i, b"0 33554431", b"32212288274431")?;
+    sample(out, i, b"0 33554432", b"32212288274431")?;
+    sample(out, i, b"0 33554431", b"32212288274432")?;
+    sample(out, i, b"0 33554432", b"32212288274432")?;
+    sample(out, i, b"0 -33554432", b"-32212288274432")?;
+    sample(out, i, b"0 -33554432", b"-32212288274433")
 }
 
 // A capacitor and an inductor between fixed nodes, each way round, beside others: all advance.
-fn fixed() {
+fn fixed(out: Stdout) -> io::Result<()> {
     let i = hex(
         b"0201000010270000 03000100E8030000 03020100E8030000 02010200F0550000 01030000D6010000 030302000A000000 0400030000000000 02000000030000000000000009000000FBFFFFFF05000000 50001800070103020077010003011000",
     );
-    circuit(b"between fixed nodes", i);
-    sample(i, b"0 1000 -2000 5", b"");
-    sample(i, b"0 1000 -2000 5", b"10 20 30 40 0 50");
-    sample(i, b"0 -1000 2000 -5", b"-10 -20 -30 -40 0 -50");
+    circuit(out, b"between fixed nodes", i)?;
+    sample(out, i, b"0 1000 -2000 5", b"")?;
+    sample(out, i, b"0 1000 -2000 5", b"10 20 30 40 0 50")?;
+    sample(out, i, b"0 -1000 2000 -5", b"-10 -20 -30 -40 0 -50")?;
     sample(
+        out,
         i,
         b"0 -1000 2000 -6",
         b"100000000000000000 -100000000000000000 100000000000000000 -100000000000000000 0 100000000000000000",
-    );
+    )
 }
 
 // Curves of one breakpoint below, at and above zero volts, both ways round.
-fn negative() {
+fn negative(out: Stdout) -> io::Result<()> {
     let i = hex(
         b"0401020000000000 0402010000000000 0401020100000000 0402010100000000 0401020200000000 0402010200000000 01000000000000400300000040D8F6FF 01000000050000000700000000000000 010000000000000080969800C0270900 600030000603020280BB000002011000",
     );
-    circuit(b"one breakpoint", i);
-    around(i, b"-600001 -600000 -599999 -1 0 1 599999 600000 600001");
-    around(i, b"-67108864 -67108863 67108863 67108864");
+    circuit(out, b"one breakpoint", i)?;
+    around(
+        out,
+        i,
+        b"-600001 -600000 -599999 -1 0 1 599999 600000 600001",
+    )?;
+    around(out, i, b"-67108864 -67108863 67108863 67108864")
 }
 
 // Sixteen breakpoints on both sides of zero, some next to each other, to the limits.
-fn sixteen() {
+fn sixteen(out: Stdout) -> io::Result<()> {
     let i = hex(
         b"0401020000000000 0402010000000000 1000000007000000000000000B0000000D000000000000401100000013000000170000001D0000001F000000250000002900000000000000000000202B0000002F00000035000000000000FCFFFFFFFD000000FE000000FFC0BDF0FF40D8F6FFFFFFFFFF000000000100000002000000C0270900C127090000000001000000020100000200000004 980088000201020280BB000002011000",
     );
-    circuit(b"sixteen breakpoints", i);
+    circuit(out, b"sixteen breakpoints", i)?;
     around(
+        out,
         i,
         b"-67108865 -67108864 -67108863 -33554434 -33554433 -33554432 -33554433 -33554432 -33554431 -16777217 -16777216 -16777215 -1000001 -1000000 -999999 -600001 -600000 -599999 -2 -1 0 -1 0 1",
-    );
+    )?;
     around(
+        out,
         i,
         b"0 1 2 1 2 3 599999 600000 600001 600000 600001 600002 16777215 16777216 16777217 33554431 33554432 33554433 33554432 33554433 33554434 67108863 67108864 67108865",
-    );
+    )
 }
 
 // Sixteen breakpoints all below zero, and sixteen all above it.
-fn sided() {
+fn sided(out: Stdout) -> io::Result<()> {
     let i = hex(
         b"0401020000000000 0402010100000000 1000000000000000581B0000B0360000A00F0000F82A0000E8030000401F0000983A000088130000E02E0000D007000028230000803E000070170000C8320000B80B00001027000080C1FFFF67C5FFFF4CC9FFFF2FCDFFFF10D1FFFFEFD4FFFFCCD8FFFFA7DCFFFF80E0FFFF57E4FFFF2CE8FFFFFFEBFFFFD0EFFFFF9FF3FFFF6CF7FFFF37FBFFFF 1000000000000000404B4C0080969800C0E1E400C0C62D0000127A00405DC60040420F00808D5B00C0D8A7000024F40000093D0040548900809FD50080841E00C0CF6A00001BB700C0270900EF9C09001E120A004D870A007CFC0A00AB710B00DAE60B00095C0C0038D10C0067460D0096BB0D00C5300E00F4A50E00231B0F0052900F0081051000 200110010202020280BB000002011000",
     );
-    circuit(b"sixteen on one side", i);
+    circuit(out, b"sixteen on one side", i)?;
     around(
+        out,
         i,
         b"-16001 -16000 -15999 -15002 -15001 -15000 -14005 -14004 -14003 -13010 -13009 -13008 -12017 -12016 -12015 -11026 -11025 -11024 -10037 -10036 -10035 -9050 -9049 -9048",
-    );
+    )?;
     around(
+        out,
         i,
         b"-8065 -8064 -8063 -7082 -7081 -7080 -6101 -6100 -6099 -5122 -5121 -5120 -4145 -4144 -4143 -3170 -3169 -3168 -2197 -2196 -2195 -1226 -1225 -1224",
-    );
+    )?;
     around(
+        out,
         i,
         b"599999 600000 600001 629998 629999 630000 659997 659998 659999 689996 689997 689998 719995 719996 719997 749994 749995 749996 779993 779994 779995 809992 809993 809994",
-    );
+    )?;
     around(
+        out,
         i,
         b"839991 839992 839993 869990 869991 869992 899989 899990 899991 929988 929989 929990 959987 959988 959989 989986 989987 989988 1019985 1019986 1019987 1049984 1049985 1049986",
-    );
+    )
 }
 
 // The steepest slopes in turn with none at all, breakpoints at the ends of their range.
-fn steep() {
+fn steep(out: Stdout) -> io::Result<()> {
     let i = hex(
         b"0401020000000000 0402010100000000 100000000000004000000000000000400000000000000040000000000000004000000000000000400000000000000040000000000000004000000000000000400000000000000040000000FC010000FC020000FC030000FC040000FC050000FC060000FC070000FCF9FFFF03FAFFFF03FBFFFF03FCFFFF03FDFFFF03FEFFFF03FFFFFF0300000004 100000000000000000000040000000000000004000000000000000400000000000000040000000000000004000000000000000400000000000000040000000000000004000000000000000FC010000FC020000FC030000FC040000FC050000FC060000FC070000FCF9FFFF03FAFFFF03FBFFFF03FCFFFF03FDFFFF03FEFFFF03FFFFFF0300000004 200110010202020280BB000002011000",
     );
-    circuit(b"steep", i);
+    circuit(out, b"steep", i)?;
     around(
+        out,
         i,
         b"-67108865 -67108864 -67108863 -67108864 -67108863 -67108862 -67108863 -67108862 -67108861 -67108862 -67108861 -67108860 -67108861 -67108860 -67108859 -67108860 -67108859 -67108858 -67108859 -67108858 -67108857 -67108858 -67108857 -67108856",
-    );
+    )?;
     around(
+        out,
         i,
         b"67108856 67108857 67108858 67108857 67108858 67108859 67108858 67108859 67108860 67108859 67108860 67108861 67108860 67108861 67108862 67108861 67108862 67108863 67108862 67108863 67108864 67108863 67108864 67108865",
-    );
-    around(i, b"-1 0 1");
+    )?;
+    around(out, i, b"-1 0 1")
 }
 
 // 32 capacitors of 2^30 nS on one node, at the ends of every range: the node is p of all.
-fn limits_p() {
+fn limits_p(out: Stdout) -> io::Result<()> {
     let i = hex(
         b"0202010000008000 0202010000008000 0202010000008000 0202010000008000 0202010000008000 0202010000008000 0202010000008000 0202010000008000 0202010000008000 0202010000008000 0202010000008000 0202010000008000 0202010000008000 0202010000008000 0202010000008000 0202010000008000 0202010000008000 0202010000008000 0202010000008000 0202010000008000 0202010000008000 0202010000008000 0202010000008000 0202010000008000 0202010000008000 0202010000008000 0202010000008000 0202010000008000 0202010000008000 0202010000008000 0202010000008000 0202010000008000 000100002000020100FA000002011000",
     );
-    circuit(b"all limits, p", i);
-    filled(i, b"0 -33554432 33554432", -144115188075855872);
-    filled(i, b"0 -33554432 33554432", 144115188075855872);
-    filled(i, b"0 33554432 -33554432", 144115188075855872);
-    filled(i, b"0 33554432 -33554432", -144115188075855872);
-    filled(i, b"0 -33554432 33554432", 0);
-    filled(i, b"0 -33554432 33554432", -1);
-    filled(i, b"0 33554432 -33554432", 0);
-    filled(i, b"0 33554432 -33554432", 1);
-    filled(i, b"0 0 0", 144115188075855872);
+    circuit(out, b"all limits, p", i)?;
+    filled(out, i, b"0 -33554432 33554432", -144115188075855872)?;
+    filled(out, i, b"0 -33554432 33554432", 144115188075855872)?;
+    filled(out, i, b"0 33554432 -33554432", 144115188075855872)?;
+    filled(out, i, b"0 33554432 -33554432", -144115188075855872)?;
+    filled(out, i, b"0 -33554432 33554432", 0)?;
+    filled(out, i, b"0 -33554432 33554432", -1)?;
+    filled(out, i, b"0 33554432 -33554432", 0)?;
+    filled(out, i, b"0 33554432 -33554432", 1)?;
+    filled(out, i, b"0 0 0", 144115188075855872)
 }
 
 // The same with the node as q of all, and a sample whose last stored current alone is beyond its limit.
-fn limits_q() {
+fn limits_q(out: Stdout) -> io::Result<()> {
     let i = hex(
         b"0201020000008000 0201020000008000 0201020000008000 0201020000008000 0201020000008000 0201020000008000 0201020000008000 0201020000008000 0201020000008000 0201020000008000 0201020000008000 0201020000008000 0201020000008000 0201020000008000 0201020000008000 0201020000008000 0201020000008000 0201020000008000 0201020000008000 0201020000008000 0201020000008000 0201020000008000 0201020000008000 0201020000008000 0201020000008000 0201020000008000 0201020000008000 0201020000008000 0201020000008000 0201020000008000 0201020000008000 0201020000008000 000100002000020100FA000002011000",
     );
-    circuit(b"all limits, q", i);
-    filled(i, b"0 -33554432 33554432", 144115188075855872);
-    filled(i, b"0 33554432 -33554432", -144115188075855872);
-    filled(i, b"0 33554432 -33554432", 144115188075855872);
+    circuit(out, b"all limits, q", i)?;
+    filled(out, i, b"0 -33554432 33554432", 144115188075855872)?;
+    filled(out, i, b"0 33554432 -33554432", -144115188075855872)?;
+    filled(out, i, b"0 33554432 -33554432", 144115188075855872)?;
     sample(
+        out,
         i,
         b"0 -33554432 33554432",
         b"0 0 0 0 0 0 0 0 0 0 0 0 0 0 0 0 0 0 0 0 0 0 0 0 0 0 0 0 0 0 0 1",
-    );
+    )?;
     sample(
+        out,
         i,
         b"0 -33554432 33554432",
         b"0 0 0 0 0 0 0 0 0 0 0 0 0 0 0 0 0 0 0 0 0 0 0 0 0 0 0 0 0 0 0 -1",
-    );
+    )?;
     sample(
+        out,
         i,
         b"0 -33554432 33554432",
         b"1 0 0 0 0 0 0 0 0 0 0 0 0 0 0 0 0 0 0 0 0 0 0 0 0 0 0 0 0 0 0 0",
-    );
+    )?;
     sample(
+        out,
         i,
         b"0 -33554432 33554432",
         b"0 -1 -2 -3 -4 -5 -6 -7 -8 -9 -10 -11 -12 -13 -14 -15 -16 -17 -18 -19 -20 -21 -22 -23 -24 -25 -26 -27 -28 -29 -30 -31",
-    );
+    )
 }
 
 // 32 diodes of 2^30 nS on one node.
-fn limits_diodes() {
+fn limits_diodes(out: Stdout) -> io::Result<()> {
     let i = hex(
         b"0402010000000000 0402010000000000 0402010000000000 0402010000000000 0402010000000000 0402010000000000 0402010000000000 0402010000000000 0402010000000000 0402010000000000 0402010000000000 0402010000000000 0402010000000000 0402010000000000 0402010000000000 0402010000000000 0401020000000000 0401020000000000 0401020000000000 0401020000000000 0401020000000000 0401020000000000 0401020000000000 0401020000000000 0401020000000000 0401020000000000 0401020000000000 0401020000000000 0401020000000000 0401020000000000 0401020000000000 0401020000000000 100000000000004000000040000000400000004000000040000000400000004000000040000000400000004000000040000000400000004000000040000000400000004000000040000000FE000040FE000080FE0000C0FE000000FF000040FF000080FF0000C0FF0000000000004000000080000000C0000000000100004001000080010000C001 880188002001020180BB000002011000",
     );
-    circuit(b"32 steep diodes", i);
-    sample(i, b"0 -33554432 33554432", b"");
-    sample(i, b"0 33554432 -33554432", b"");
-    sample(i, b"0 33554432 33554432", b"");
+    circuit(out, b"32 steep diodes", i)?;
+    sample(out, i, b"0 -33554432 33554432", b"")?;
+    sample(out, i, b"0 33554432 -33554432", b"")?;
+    sample(out, i, b"0 33554432 33554432", b"")
 }
 
 // A free node with no element: the leak alone holds it, and the largest bound of all fits.
-fn lone() {
+fn lone(out: Stdout) -> io::Result<()> {
     let i = hex(b"01010000E8030000 080000000100020180BB000002011000");
-    circuit(b"leak alone", i);
-    sample(i, b"0 5 33554432", b"");
-    sample(i, b"0 5 -33554432", b"");
+    circuit(out, b"leak alone", i)?;
+    sample(out, i, b"0 5 33554432", b"")?;
+    sample(out, i, b"0 5 -33554432", b"")
 }
 
 // The example in version 2, at each answer and one above.
-fn stiffer_divider() {
+fn stiffer_divider(out: Stdout) -> io::Result<()> {
     let i = hex(b"01010200E8030000 01020000E8030000 100000000200020180BB000002021000");
-    circuit(b"divider of version 2", i);
-    sample(i, b"0 0 0", b"");
-    sample(i, b"0 0 1", b"");
-    sample(i, b"0 1000000 499997", b"");
-    sample(i, b"0 1000000 499998", b"");
-    sample(i, b"0 -1000000 -499998", b"");
-    sample(i, b"0 -1000000 -499997", b"");
+    circuit(out, b"divider of version 2", i)?;
+    sample(out, i, b"0 0 0", b"")?;
+    sample(out, i, b"0 0 1", b"")?;
+    sample(out, i, b"0 1000000 499997", b"")?;
+    sample(out, i, b"0 1000000 499998", b"")?;
+    sample(out, i, b"0 -1000000 -499998", b"")?;
+    sample(out, i, b"0 -1000000 -499997", b"")
 }
 
 // .. and where its leak alone holds a node.
-fn stiffer_lone() {
+fn stiffer_lone(out: Stdout) -> io::Result<()> {
     let i = hex(b"01010000E8030000 080000000100020180BB000002021000");
-    circuit(b"leak of version 2 alone", i);
-    sample(i, b"0 5 33554432", b"");
-    sample(i, b"0 5 -33554432", b"");
+    circuit(out, b"leak of version 2 alone", i)?;
+    sample(out, i, b"0 5 33554432", b"")?;
+    sample(out, i, b"0 5 -33554432", b"")
 }
 
 // No free node: no bound.
-fn all_driven() {
+fn all_driven(out: Stdout) -> io::Result<()> {
     let i = hex(b"01010200E8030000 02020000E8030000 100000000200020280BB000002011000");
-    circuit(b"no free node", i);
-    sample(i, b"0 16777216 -16777216", b"0 -5");
+    circuit(out, b"no free node", i)?;
+    sample(out, i, b"0 16777216 -16777216", b"0 -5")
 }
 
 // 10,000 pF between two driven nodes, two samples: it is under no free node, and its stored current moves.
-fn drives() {
+fn drives(out: Stdout) -> io::Result<()> {
     let i = hex(b"0201020010270000 080000000100020280BB000002011000");
-    circuit(b"capacitor between drives", i);
-    sample(i, b"0 1000000 -500000", b"");
-    sample(i, b"0 -1000000 250000", b"2880000000000");
+    circuit(out, b"capacitor between drives", i)?;
+    sample(out, i, b"0 1000000 -500000", b"")?;
+    sample(out, i, b"0 -1000000 250000", b"2880000000000")
 }
 
 // The diode clipper: 2200 ohm from 1 to 2, 10,000 pF and two diodes, each way round, from 2 to ground.
-fn clipper() {
+fn clipper(out: Stdout) -> io::Result<()> {
     let i = hex(
         b"0101020098080000 0202000010270000 0402000000000000 0400020000000000 0F0000000000000024040000F84400003C3B010099BD0300DFCE0800E3271100386A21005A154100E0C37E00A0E7F600A4E7E001BDACA803AE642007D46EE10D38BAE02200000000400D0300E093040030570500801A0600B08F0600E0040700107A070040EF070070640800A0D90800D04E090000C4090030390A0060AE0A00 A00080000401020180BB000002011000",
     );
-    circuit(b"clipper", i);
-    sample(i, b"0 1000000 500000", b"0 1234567");
-    sample(i, b"0 -1000000 -500000", b"0 -1234567");
-    sample(i, b"0 4000000 700000", b"0 671999999999");
-    sample(i, b"0 4000000 699999", b"0 671999999999");
+    circuit(out, b"clipper", i)?;
+    sample(out, i, b"0 1000000 500000", b"0 1234567")?;
+    sample(out, i, b"0 -1000000 -500000", b"0 -1234567")?;
+    sample(out, i, b"0 4000000 700000", b"0 671999999999")?;
+    sample(out, i, b"0 4000000 699999", b"0 671999999999")
 }
 
 // 32 elements of all kinds among 15 nodes, with eight curves, at voltages and stored currents from a row of numbers.
-fn large() {
+fn large(out: Stdout) -> io::Result<()> {
     let i = hex(
         b"020A0D0094893200 02010300C9974400 02030900CD984A00 02010000A8F34000 0206070052000B00 020D040006F10800 02070900B8884600 020D0E00CA604800 03030700CC9F4A00 03010B002DF34A00 030C0D00904C1C00 03010A00070C1100 030900001B771200 03030D007D7C2700 0305070007724A00 03060C00C2780C00 01020C0021F40000 01060E00ECE20A00 010D0A00C0060500 010E08006BC60E00 010E0400D9CB0400 0107040054E00200 01070900D7300900 0109020000EC0700 040A060000000000 040E030100000000 0402040200000000 040D000300000000 040A0D0400000000 040F060500000000 04010C0600000000 04020F0700000000 0100000024710500E40F00001C1C0501 030000001A450000ACF52804E809000060851C002DA719FD835E7FFDF69D4C03 05000000B0020000F91D0000462F1E001CA94C021DFB010015640000F06A5CFC63558D0122FBAF01A4332C02991A6303 070000001A1D0100C3DE02003F94D801F0F954007DBB2600F5F4DD1D840F0000025717009E0F4AFD77D930FEB16FA9FE7107720087226D02AB6AE30220DF2F03 0A0000003F2F0300CA504E0628DA0300F2DE1F00627B2200B033C301888403008559D70001000000AE090000999F010075C410FCA627DDFC620302FEC4B054FECBC982008F0819016E76E8011A2F47023E01B402A5694E03 0C0000004B77000025F71E004CE4AF001E450300C7430000AA14000033D30B0079DEE4027603000060F389096C21000026807701E70E5B009F7368FC390320FDEC7CD8FD6A29F7FD797660FE31C653FF6D3F090057E88E010A9DD30114090502D91F96037220CF03 0E0000001903000045B00000A1970500259E1400F8261A0052AEF000EDEBAC00B80700007D000000C11A020B90F5000006330000CEB600001FFBA30AABCA0000256E72FCE3B376FC70511FFF33DD32FF249491FF96B9A0FF2A88D4FF05942500937F7800CC4E46015862B00103346902984B8E03366FE203 10000000978E000089BD63004C9503002F9E0D00B207000004BA290040235A0377F90000A90E0000D73500005E0800006F13000093090000EE020000C00D080050F7600193070000CC563AFC0BA457FC10D770FC48D45BFD4FF4A4FD635908FE878218FEDFBA56FEFF1C6BFE069E7EFEA5AC8AFEC155B8FEE9449B0194146C02E91672034AF79603 6003600220080F0444AC00000F011000",
     );
-    circuit(b"large", i);
-    noise(i, 16, 24);
+    circuit(out, b"large", i)?;
+    noise(out, i, 16, 24)
 }
 
 // Nothing is asked of an image that is refused, nor at voltages or stored currents beyond their limits.
-fn refused() {
+fn refused(out: Stdout) -> io::Result<()> {
     let i = hex(b"01010200E8030000 01020000E8030000 100000000200020180BB000002011100");
-    circuit(b"refused", i);
-    sample(i, b"0 1 2", b"");
+    circuit(out, b"refused", i)?;
+    sample(out, i, b"0 1 2", b"")
 }
 
 // .. nor at voltages or stored currents beyond their limits.
-fn beyond() {
+fn beyond(out: Stdout) -> io::Result<()> {
     let i = hex(b"01010200E8030000 01020000E8030000 100000000200020180BB000002011000");
-    circuit(b"beyond", i);
-    sample(i, b"0 33554433", b"");
-    sample(i, b"0 -33554433", b"");
-    sample(i, b"0 0", b"0 0 144115188075855873");
-    sample(i, b"0 0", b"0 0 -144115188075855873");
-    sample(i, b"0 0", b"0 0 144115188075855872");
+    circuit(out, b"beyond", i)?;
+    sample(out, i, b"0 33554433", b"")?;
+    sample(out, i, b"0 -33554433", b"")?;
+    sample(out, i, b"0 0", b"0 0 144115188075855873")?;
+    sample(out, i, b"0 0", b"0 0 -144115188075855873")?;
+    sample(out, i, b"0 0", b"0 0 144115188075855872")
 }
 
-fn document() {
-    divider();
-    capacitor();
-    diode();
-    alone();
-    fixed();
-    negative();
+fn document(out: Stdout) -> io::Result<()> {
+    divider(out)?;
+    capacitor(out)?;
+    diode(out)?;
+    alone(out)?;
+    fixed(out)?;
+    negative(out)
 }
 
-fn curves() {
-    sixteen();
-    sided();
-    steep();
-    limits_p();
-    limits_q();
-    limits_diodes();
+fn curves(out: Stdout) -> io::Result<()> {
+    sixteen(out)?;
+    sided(out)?;
+    steep(out)?;
+    limits_p(out)?;
+    limits_q(out)?;
+    limits_diodes(out)
 }
 
-fn more() {
-    lone();
-    stiffer_divider();
-    stiffer_lone();
-    all_driven();
-    drives();
-    clipper();
-    large();
-    refused();
-    beyond();
+fn more(out: Stdout) -> io::Result<()> {
+    lone(out)?;
+    stiffer_divider(out)?;
+    stiffer_lone(out)?;
+    all_driven(out)?;
+    drives(out)?;
+    clipper(out)?;
+    large(out)?;
+    refused(out)?;
+    beyond(out)
 }
 
-pub fn all() {
-    document();
-    curves();
-    more();
+pub fn all(out: Stdout) -> io::Result<()> {
+    document(out)?;
+    curves(out)?;
+    more(out)
 }

@@ -11,6 +11,8 @@ mod run;
 mod show;
 mod text;
 
-fn main() {
-    cases::all();
+use std::io;
+
+fn main(rt: HostRuntime) -> io::Result<()> {
+    cases::all(rt.stdout())
 }

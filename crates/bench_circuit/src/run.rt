@@ -2,34 +2,38 @@
 // come from a row of numbers.
 ghost use Rattle.std.specs.Prelude.{◌^◌, ◌<◌};
 
+use super::ask;
 use super::ask::Question;
 use super::text::{Image, list, with_sign};
-use super::{ask, show};
+use std::io;
+use std::io::Stdout;
 use units::signed;
 
 // What a circuit is by itself, behind its name.
-pub fn circuit(name: &[u8], i: Image) {
-    show::text(name);
-    show::text(b"\n");
+pub fn circuit(out: Stdout, name: &[u8], i: Image) -> io::Result<()> {
+    out.write_all(name)?;
+    print!(out; "\n")?;
     ask::of(
+        out,
         i,
         Question {
             sample: false,
             volts: [0; 16],
             stored: [0; 32],
         },
-    );
+    )
 }
 
-fn at(i: Image, volts: [i64; 16], stored: [i64; 32]) {
+fn at(out: Stdout, i: Image, volts: [i64; 16], stored: [i64; 32]) -> io::Result<()> {
     ask::of(
+        out,
         i,
         Question {
             sample: true,
             volts,
             stored,
         },
-    );
+    )
 }
 
 // The first 16 of the numbers.
@@ -42,23 +46,23 @@ fn first(l: [i64; 32]) -> [i64; 16] {
 }
 
 // One sample: the voltages from ground on, and the stored currents.
-pub fn sample(i: Image, volts: &[u8], stored: &[u8]) {
-    at(i, first(list(volts)), list(stored));
+pub fn sample(out: Stdout, i: Image, volts: &[u8], stored: &[u8]) -> io::Result<()> {
+    at(out, i, first(list(volts)), list(stored))
 }
 
 // One sample with all stored currents alike.
-pub fn filled(i: Image, volts: &[u8], x: i64) {
-    at(i, first(list(volts)), [x; 32]);
+pub fn filled(out: Stdout, i: Image, volts: &[u8], x: i64) -> io::Result<()> {
+    at(out, i, first(list(volts)), [x; 32])
 }
 
 // A sample with v between nodes 1 and 2.
-fn across(i: Image, v: i64) {
+fn across(out: Stdout, i: Image, v: i64) -> io::Result<()> {
     let n = signed::size(v);
     let negative = signed::less(v, 0);
     let mut volts = [0i64; 16];
     volts[1] = with_sign(negative, n / 2);
     volts[2] = with_sign(!negative, n - n / 2);
-    at(i, volts, [0; 32]);
+    at(out, i, volts, [0; 32])
 }
 
 // How many numbers a text has.
@@ -73,14 +77,15 @@ fn count(s: &[u8]) -> usize {
 }
 
 // The same for each v of a list.
-pub fn around(i: Image, s: &[u8]) {
+pub fn around(out: Stdout, i: Image, s: &[u8]) -> io::Result<()> {
     let l = list(s);
     let n = count(s);
     for k in 0..32usize {
         if k < n {
-            across(i, l[k]);
+            across(out, i, l[k])?;
         }
     }
+    Ok(())
 }
 
 // The next of a row of numbers.
@@ -118,10 +123,11 @@ fn some_stored(x: u64, n: usize) -> [i64; 32] {
 }
 
 // Samples at voltages and stored currents from a row of numbers; the first n elements store any.
-pub fn noise(i: Image, n: usize, rounds: u64) {
+pub fn noise(out: Stdout, i: Image, n: usize, rounds: u64) -> io::Result<()> {
     let mut x = rounds;
     for k in 0..rounds {
         x = next(x);
-        at(i, some_volts(x), some_stored(next(x), n));
+        at(out, i, some_volts(x), some_stored(next(x), n))?;
     }
+    Ok(())
 }

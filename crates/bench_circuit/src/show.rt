@@ -6,119 +6,116 @@ ghost use Rattle.circuit.specs.Nets.{Netted};
 use circuit::advance::Advanced;
 use circuit::bound::Bound;
 use circuit::{advance, board, bound, branch, nets, node};
-use libc::STDOUT_FILENO;
-use units::signed;
-
-pub fn text(s: &[u8]) {
-    io::write_all(STDOUT_FILENO, s);
-}
-
-fn one(n: u64) {
-    text(b" ");
-    io::print_decimal(STDOUT_FILENO, n);
-}
-
-fn one_signed(z: i64) {
-    if signed::less(z, 0) {
-        text(b" -");
-    } else {
-        text(b" ");
-    }
-    io::print_decimal(STDOUT_FILENO, signed::size(z));
-}
+use std::io;
+use std::io::Stdout;
 
 // The least bound for e.
-fn least(board: &[u64; 293], stretches: &[i64; 408], e: u64)
+fn least(out: Stdout, board: &[u64; 293], stretches: &[i64; 408], e: u64) -> io::Result<()>
     requires { Laid board.now stretches.now }
 {
     match bound::least(board, stretches, e) {
-        Bound::Least(b) => {
-            one(b);
-        }
-        Bound::Nothing => {
-            text(b" none");
-        }
+        Bound::Least(b) => print!(out; " {b}"),
+        Bound::Nothing => print!(out; " none"),
     }
 }
 
 // .. for no e, for one, and for the largest.
-fn bounds(board: &[u64; 293], stretches: &[i64; 408])
+fn bounds(out: Stdout, board: &[u64; 293], stretches: &[i64; 408]) -> io::Result<()>
     requires { Laid board.now stretches.now }
 {
-    text(b"  B");
-    least(board, stretches, 0);
-    least(board, stretches, 1);
-    least(board, stretches, 1000000000000);
-    least(board, stretches, 18446744073709551614);
-    least(board, stretches, 18446744073709551615);
-    text(b"\n");
+    print!(out; "  B")?;
+    least(out, board, stretches, 0)?;
+    least(out, board, stretches, 1)?;
+    least(out, board, stretches, 1000000000000)?;
+    least(out, board, stretches, 18446744073709551614)?;
+    least(out, board, stretches, 18446744073709551615)?;
+    print!(out; "\n")
 }
 
 // The held conductance of every node, with ground.
-fn held(board: &[u64; 293], stretches: &[i64; 408])
+fn held(out: Stdout, board: &[u64; 293], stretches: &[i64; 408]) -> io::Result<()>
     requires { Laid board.now stretches.now }
 {
     let nodes = board::nodes(board);
     for i in 0..16usize {
         if i <= nodes {
-            one(node::held(board, stretches, i));
+            print!(out; " {}", node::held(board, stretches, i))?;
         }
     }
+    Ok(())
 }
 
 // The steepest sum of every node, as it stands on the board.
-fn steepest(board: &[u64; 293]) {
+fn steepest(out: Stdout, board: &[u64; 293]) -> io::Result<()> {
     let nodes = board::nodes(board);
     for i in 0..16usize {
         if i <= nodes {
-            one(board::steepest(board, i));
+            print!(out; " {}", board::steepest(board, i))?;
         }
     }
+    Ok(())
 }
 
 // Held conductance and steepest sum of every node.
-fn nodes(board: &[u64; 293], stretches: &[i64; 408])
+fn nodes(out: Stdout, board: &[u64; 293], stretches: &[i64; 408]) -> io::Result<()>
     requires { Laid board.now stretches.now }
 {
-    text(b"  held");
-    held(board, stretches);
-    text(b" steepest");
-    steepest(board);
-    text(b"\n");
+    print!(out; "  held")?;
+    held(out, board, stretches)?;
+    print!(out; " steepest")?;
+    steepest(out, board)?;
+    print!(out; "\n")
 }
 
 // What a circuit is by itself.
-pub fn circuit(board: &[u64; 293], stretches: &[i64; 408])
+pub fn circuit(out: Stdout, board: &[u64; 293], stretches: &[i64; 408]) -> io::Result<()>
     requires { Laid board.now stretches.now }
 {
-    nodes(board, stretches);
-    bounds(board, stretches);
+    nodes(out, board, stretches)?;
+    bounds(out, board, stretches)
 }
 
 // The current of every element.
-fn flows(board: &[u64; 293], stretches: &[i64; 408], stored: &[i64; 32], volts: &[i64; 16])
+fn flows(
+    out: Stdout,
+    board: &[u64; 293],
+    stretches: &[i64; 408],
+    stored: &[i64; 32],
+    volts: &[i64; 16],
+) -> io::Result<()>
     requires { Evaluable board.now stretches.now stored.now volts.now }
 {
     let count = board::count(board);
-    text(b"  flow");
+    print!(out; "  flow")?;
     for j in 0..32usize {
         if j < count {
-            one_signed(branch::flow(board, stretches, stored, volts, j));
+            print!(out; " {}", branch::flow(board, stretches, stored, volts, j))?;
         }
     }
+    Ok(())
 }
 
 // The net current of every node, with ground.
-fn nets(board: &[u64; 293], stretches: &[i64; 408], stored: &[i64; 32], volts: &[i64; 16])
+fn nets(
+    out: Stdout,
+    board: &[u64; 293],
+    stretches: &[i64; 408],
+    stored: &[i64; 32],
+    volts: &[i64; 16],
+) -> io::Result<()>
     requires { Evaluable board.now stretches.now stored.now volts.now }
 {
     let nodes = board::nodes(board);
-    text(b" net");
+    print!(out; " net")?;
     for i in 0..16usize {
         if i <= nodes {
-            one_signed(node::net_current(board, stretches, stored, volts, i));
+            print!(out;
+                " {}",
+                node::net_current(board, stretches, stored, volts, i)
+            )?;
         }
     }
+    Ok(())
 }
 
 // Every node is moved from zero volts to its voltage, one after the other.
@@ -141,52 +138,68 @@ fn move_all(
 }
 
 // The same net currents, as such moves leave them.
-fn moved(board: &[u64; 293], stretches: &[i64; 408], stored: &[i64; 32], volts: &[i64; 16])
+fn moved(
+    out: Stdout,
+    board: &[u64; 293],
+    stretches: &[i64; 408],
+    stored: &[i64; 32],
+    volts: &[i64; 16],
+) -> io::Result<()>
     requires { Evaluable board.now stretches.now stored.now volts.now }
 {
     let mut at = [0i64; 16];
     let mut nets = nets::taken(board, stretches, stored, &at);
     move_all(board, stretches, stored, volts, &mut at, &mut nets);
     let nodes = board::nodes(board);
-    text(b" moved");
+    print!(out; " moved")?;
     for i in 0..16usize {
         if i <= nodes {
-            one_signed(nets[i]);
+            print!(out; " {}", nets[i])?;
         }
     }
+    Ok(())
 }
 
 // The stored currents of n elements, and the one in the place after them.
-fn row(x: &[i64; 32], n: usize) {
+fn row(out: Stdout, x: &[i64; 32], n: usize) -> io::Result<()> {
     for j in 0..32usize {
         if j <= n {
-            one_signed(x[j]);
+            print!(out; " {}", x[j])?;
         }
     }
+    Ok(())
 }
 
 // The stored currents after a sample.
-fn advanced(board: &[u64; 293], stretches: &[i64; 408], volts: &[i64; 16], stored: &mut [i64; 32])
+fn advanced(
+    out: Stdout,
+    board: &[u64; 293],
+    stretches: &[i64; 408],
+    volts: &[i64; 16],
+    stored: &mut [i64; 32],
+) -> io::Result<()>
     requires { Evaluable board.now stretches.now stored.old volts.now × (length stored.old ≡ 32) }
 {
     match advance::advance(board, stretches, volts, stored) {
-        Advanced::Stored => {
-            text(b" stored");
-        }
-        Advanced::Beyond => {
-            text(b" beyond");
-        }
+        Advanced::Stored => print!(out; " stored")?,
+        Advanced::Beyond => print!(out; " beyond")?,
     }
-    row(stored, board::count(board));
-    text(b"\n");
+    row(out, stored, board::count(board))?;
+    print!(out; "\n")
 }
 
 // What a circuit does at these voltages with these stored currents.
-pub fn sample(board: &[u64; 293], stretches: &[i64; 408], volts: &[i64; 16], stored: &mut [i64; 32])
+pub fn sample(
+    out: Stdout,
+    board: &[u64; 293],
+    stretches: &[i64; 408],
+    volts: &[i64; 16],
+    stored: &mut [i64; 32],
+) -> io::Result<()>
     requires { Evaluable board.now stretches.now stored.old volts.now × (length stored.old ≡ 32) }
 {
-    flows(board, stretches, stored, volts);
-    nets(board, stretches, stored, volts);
-    moved(board, stretches, stored, volts);
-    advanced(board, stretches, volts, stored);
+    flows(out, board, stretches, stored, volts)?;
+    nets(out, board, stretches, stored, volts)?;
+    moved(out, board, stretches, stored, volts)?;
+    advanced(out, board, stretches, volts, stored)
 }

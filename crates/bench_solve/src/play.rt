@@ -7,24 +7,12 @@ ghost use Rattle.solve.specs.Sample.{Playable};
 
 use circuit::{advance, board};
 use image::Parts;
-use libc::STDOUT_FILENO;
 use solve::sample;
+use std::io;
+use std::io::Stdout;
 use units::number::Number;
 use units::voltage::Voltage;
 use units::{number, signed};
-
-fn text(s: &[u8]) {
-    io::write_all(STDOUT_FILENO, s);
-}
-
-fn number(z: i64) {
-    if signed::less(z, 0) {
-        text(b" -");
-    } else {
-        text(b" ");
-    }
-    io::print_decimal(STDOUT_FILENO, signed::size(z));
-}
 
 // The drive of sample k: two sines of 2 V together, 440 and 1,000 Hz.
 fn drive(k: u64) -> i64 {
@@ -69,10 +57,8 @@ fn proposal(which: u64, v: i64) -> i64 {
 // The proposal at every place, and the drive d at the driven node, where there is one.
 fn propose(which: u64, driven: usize, d: i64, last: &[i64; 16]) -> [i64; 16] {
     let mut volts = [0i64; 16];
-    let mut i: usize = 0;
-    while i < 16 {
+    for i in 0..16usize {
         volts[i] = proposal(which, last[i]);
-        i += 1;
     }
     if driven != 0 {
         volts[1] = d;
@@ -95,14 +81,12 @@ fn attempt(
 
 // Whether nodes stand alike, up to the last that is there.
 fn alike(nodes: usize, a: &[i64; 16], b: &[i64; 16]) -> bool {
-    let mut i: usize = 0;
-    while i < 16 {
+    for i in 0..16usize {
         if i <= nodes {
             if a[i] != b[i] {
                 return false;
             }
         }
-        i += 1;
     }
     true
 }
@@ -121,8 +105,7 @@ fn agree(
     let driven = board::driven(board);
     let mut first = propose(0, driven, d, last);
     let number = attempt(board, stretches, stored, &mut first);
-    let mut which: u64 = 1;
-    while which < 7 {
+    for which in 1..7u64 {
         let mut other = propose(which, driven, d, last);
         if attempt(board, stretches, stored, &mut other) != number {
             return false;
@@ -130,7 +113,6 @@ fn agree(
         if (number == 0) & !alike(nodes, &first, &other) {
             return false;
         }
-        which += 1;
     }
     true
 }
@@ -160,98 +142,98 @@ fn mixed(sum: u64, v: i64) -> u64 {
 // All nodes in it.
 fn mixed_all(sum: u64, nodes: usize, volts: &[i64; 16]) -> u64 {
     let mut s = sum;
-    let mut i: usize = 0;
-    while i < 16 {
+    for i in 0..16usize {
         if i <= nodes {
             s = mixed(s, volts[i]);
         }
-        i += 1;
     }
     s
 }
 
 // The voltages of all nodes.
-fn show(nodes: usize, volts: &[i64; 16]) {
-    let mut i: usize = 0;
-    while i < 16 {
+fn show(out: Stdout, nodes: usize, volts: &[i64; 16]) -> io::Result<()> {
+    for i in 0..16usize {
         if i <= nodes {
-            number(volts[i]);
+            print!(out; " {}", volts[i])?;
         }
-        i += 1;
     }
+    Ok(())
 }
 
 // The stored currents of all elements.
-fn show_stored(count: usize, stored: &[i64; 32]) {
-    text(b", stored");
-    let mut j: usize = 0;
-    while j < 32 {
+fn show_stored(out: Stdout, count: usize, stored: &[i64; 32]) -> io::Result<()> {
+    print!(out; ", stored")?;
+    for j in 0..32usize {
         if j < count {
-            number(stored[j]);
+            print!(out; " {}", stored[j])?;
         }
-        j += 1;
     }
-    text(b"\n");
+    print!(out; "\n")
 }
 
-fn refused(number: u64) {
-    text(b" refused ");
-    io::print_decimal(STDOUT_FILENO, number);
+fn refused(out: Stdout, number: u64) -> io::Result<()> {
+    print!(out; " refused {number}")
 }
 
 // .. where there is no more to say.
-fn stopped(number: u64) {
-    refused(number);
-    text(b"\n");
+fn stopped(out: Stdout, number: u64) -> io::Result<()> {
+    refused(out, number)?;
+    print!(out; "\n")
 }
 
-fn differ() {
-    text(b" differ\n");
+fn differ(out: Stdout) -> io::Result<()> {
+    println!(out; " differ")
 }
 
-fn agreed(sum: u64, nodes: usize, last: &[i64; 16]) {
-    text(b" agree, sum ");
-    io::print_decimal(STDOUT_FILENO, sum);
-    text(b", last");
-    show(nodes, last);
-    text(b"\n");
+fn agreed(out: Stdout, sum: u64, nodes: usize, last: &[i64; 16]) -> io::Result<()> {
+    print!(out; " agree, sum {sum}, last")?;
+    show(out, nodes, last)?;
+    print!(out; "\n")
 }
 
 // The number of a refused sample, or an accepted one's voltages.
-fn tell(number: u64, nodes: usize, volts: &[i64; 16]) {
+fn tell(out: Stdout, number: u64, nodes: usize, volts: &[i64; 16]) -> io::Result<()> {
     if number == 0 {
-        show(nodes, volts);
+        show(out, nodes, volts)
     } else {
-        refused(number);
+        refused(out, number)
     }
 }
 
 // n samples.
-fn samples(board: &[u64; 293], stretches: &[i64; 408], stored: &mut [i64; 32], n: u64)
+fn samples(
+    out: Stdout,
+    board: &[u64; 293],
+    stretches: &[i64; 408],
+    stored: &mut [i64; 32],
+    n: u64,
+) -> io::Result<()>
     requires { Playable board.now stretches.now stored.old }
 {
     let nodes = board::nodes(board);
     let mut last = [0i64; 16];
     let mut sum: u64 = 1;
-    let mut k: u64 = 0;
-    while k < n {
+    for k in 0..n {
         if !agree(board, stretches, stored, drive(k), &last) {
-            differ();
-            return;
+            return differ(out);
         }
         let number = advanced(board, stretches, stored, drive(k), &mut last);
         if number != 0 {
-            stopped(number);
-            return;
+            return stopped(out, number);
         }
         sum = mixed_all(sum, nodes, &last);
-        k += 1;
     }
-    agreed(sum, nodes, &last);
+    agreed(out, sum, nodes, &last)
 }
 
 // One sample of drive d: from all proposals, those beside its own answer among them.
-fn once(board: &[u64; 293], stretches: &[i64; 408], stored: &mut [i64; 32], d: i64)
+fn once(
+    out: Stdout,
+    board: &[u64; 293],
+    stretches: &[i64; 408],
+    stored: &mut [i64; 32],
+    d: i64,
+) -> io::Result<()>
     requires { Playable board.now stretches.now stored.old }
 {
     let zeros = [0i64; 16];
@@ -259,10 +241,10 @@ fn once(board: &[u64; 293], stretches: &[i64; 408], stored: &mut [i64; 32], d: i
     attempt(board, stretches, stored, &mut last);
     if agree(board, stretches, stored, d, &last) {
         let number = advanced(board, stretches, stored, d, &mut last);
-        tell(number, board::nodes(board), &last);
-        show_stored(board::count(board), stored);
+        tell(out, number, board::nodes(board), &last)?;
+        show_stored(out, board::count(board), stored)
     } else {
-        differ();
+        differ(out)
     }
 }
 
@@ -280,48 +262,42 @@ fn charged(at: usize, x: i64) -> [i64; 32]
 }
 
 // An opened image: n samples, or where n is 0 the one of drive d.
-fn opened(parts: Parts, n: u64, at: usize, x: i64, d: i64)
+fn opened(out: Stdout, parts: Parts, n: u64, at: usize, x: i64, d: i64) -> io::Result<()>
     requires { Sound parts }
 {
     if !image::conductances_fit(parts) {
-        stopped(number::value(Number::Conductance));
-        return;
+        return stopped(out, number::value(Number::Conductance));
     }
     let mut stretches = [0i64; 408];
     opening::stretches(parts, &mut stretches);
     let board = opening::board(parts, &stretches);
     let mut stored = charged(at, x);
     if n == 0 {
-        once(&board, &stretches, &mut stored, d);
+        once(out, &board, &stretches, &mut stored, d)
     } else {
-        samples(&board, &stretches, &mut stored, n);
+        samples(out, &board, &stretches, &mut stored, n)
     }
 }
 
 // An image, which must be opened.
-fn played(image: &[u8], n: u64, at: usize, x: i64, d: i64) {
+fn played(out: Stdout, image: &[u8], n: u64, at: usize, x: i64, d: i64) -> io::Result<()> {
     let o = image::read(image);
     let number = o.number;
     match number {
-        Number::Done => opened(o.parts, n, at, x, d),
-        _ => stopped(number::value(number)),
+        Number::Done => opened(out, o.parts, n, at, x, d),
+        _ => stopped(out, number::value(number)),
     }
 }
 
 // n samples of the circuit of this name, from a fresh state.
-pub fn circuit(name: &[u8], image: &[u8], n: u64) {
-    text(name);
-    played(image, n, 0, 0, 0);
+pub fn circuit(out: Stdout, name: &str, image: &[u8], n: u64) -> io::Result<()> {
+    print!(out; "{name}")?;
+    played(out, image, n, 0, 0, 0)
 }
 
 // One sample of drive d, begun with x stored at element `at`: its number or its voltages, and all
 // stored currents after it.
-pub fn case(name: &[u8], image: &[u8], at: usize, x: i64, d: i64) {
-    text(name);
-    text(b", stored");
-    number(x);
-    text(b", drive");
-    number(d);
-    text(b":");
-    played(image, 0, at, x, d);
+pub fn case(out: Stdout, name: &str, image: &[u8], at: usize, x: i64, d: i64) -> io::Result<()> {
+    print!(out; "{name}, stored {x}, drive {d}:")?;
+    played(out, image, 0, at, x, d)
 }

@@ -8,28 +8,26 @@ mod answer;
 mod line;
 mod pairs;
 
-use libc::STDOUT_FILENO;
+use std::io;
+use std::rt::Files;
 
-// The curve of the list that argument i names.
-fn report_on(i: usize) {
-    let mut path = io::buffer();
-    let named = os::arg(i, &mut path);
-    // a descriptor below 0 is read as an empty file
-    let file = os::open_read(&path[..named]);
+// The curve of the list of this name.
+fn report_on(rt: &(impl Files + Print), name: &[u8]) -> io::Result<()> {
     // longer than any text that is read
-    let mut list = io::large_buffer();
-    let n = io::read_full(file, &mut list);
-    libc::close(file);
-    let mut text = io::buffer();
+    let mut list = outside::large_buffer();
+    let n = outside::read(rt, name, &mut list);
+    let mut text = outside::buffer();
     let end = answer::put(&mut text, &list[..n]);
-    io::write_all(STDOUT_FILENO, &text[..end]);
+    rt.write_all(&text[..end])
 }
 
-fn main() {
-    let count = os::arg_count();
-    let mut i: usize = 1;
-    while i < count {
-        report_on(i);
-        i += 1;
+fn main(rt: HostRuntime) -> io::Result<()> {
+    for i in 1..usize::MAX {
+        let mut name = outside::buffer();
+        match outside::argument(&rt, i, &mut name) {
+            Some(n) => report_on(&rt, &name[..n])?,
+            None => break,
+        }
     }
+    Ok(())
 }

@@ -21,42 +21,46 @@ ghost use Rattle.writing.specs.Image.{image_of};
 
 use asked::Asked;
 use image::Parts;
-use libc::{STDERR_FILENO, STDOUT_FILENO};
 use netlist::Verdict;
+use std::io;
+use std::io::Stderr;
+use std::rt::{Env, Files};
+
+// A proved loop has to end. No program is given so many arguments.
+const ENOUGH: usize = 4611686018427387904;
 
 // The curves, two lines each.
-fn write_curves(parts: Parts)
+fn write_curves(out: &impl Print, parts: Parts) -> io::Result<()>
     requires { Sound parts }
 {
     let curves = parts.curves;
     let n = parts.curve_count as usize;
-    let mut k: usize = 0;
-    while k < n {
-        let mut text = io::buffer();
+    for k in 0..n {
+        let mut text = outside::buffer();
         let end = report::put_curve(&mut text, curves[k]);
-        io::write_all(STDOUT_FILENO, &text[..end]);
-        k += 1;
+        out.write_all(&text[..end])?;
     }
+    Ok(())
 }
 
 // All that the parts are: counts and elements, curves, and how far each free node's voltage can be
 // trusted.
-fn write_parts(parts: Parts)
+fn write_parts(out: &impl Print, parts: Parts) -> io::Result<()>
     requires { judged parts ≡ Done }
 {
-    let mut text = io::buffer();
+    let mut text = outside::buffer();
     let listed = report::put_parts(&mut text, parts);
-    io::write_all(STDOUT_FILENO, &text[..listed]);
-    write_curves(parts);
+    out.write_all(&text[..listed])?;
+    write_curves(out, parts)?;
     let bounded = report::put_bounds(&mut text, parts);
-    io::write_all(STDOUT_FILENO, &text[..bounded]);
+    out.write_all(&text[..bounded])
 }
 
 // Why there are none.
-fn write_refusal(verdict: Verdict) {
-    let mut text = io::buffer();
+fn write_refusal(out: &impl Print, verdict: Verdict) -> io::Result<()> {
+    let mut text = outside::buffer();
     let end = refusal::put(&mut text, verdict);
-    io::write_all(STDOUT_FILENO, &text[..end]);
+    out.write_all(&text[..end])
 }
 
 // The image at the start of a buffer that has room for the longest, and how long it is.
@@ -68,79 +72,89 @@ fn put_image(buffer: &mut [u8], parts: Parts) -> usize
 }
 
 // The image into the file that argument i names, if one is wanted.
-fn write_image(parts: Parts, i: usize)
+fn write_image(
+    rt: &(impl Files + Env + AllocGlobal),
+    err: Stderr,
+    parts: Parts,
+    i: usize,
+) -> io::Result<()>
     requires { judged parts ≡ Done }
 {
-    if os::arg_count() <= i {
-        return;
+    let mut name = outside::buffer();
+    match outside::argument(rt, i, &mut name) {
+        Some(named) => {
+            if named == 0 {
+                let _ = err.println("the name of an image is empty or too long");
+                return Ok(());
+            }
+            if named == 1 && name[0] == b'-' {
+                return Ok(());
+            }
+            let mut image = outside::buffer();
+            let end = put_image(&mut image, parts);
+            file::replace(rt, err, &name[..named], &image[..end])
+        }
+        None => Ok(()),
     }
-    let mut path = io::buffer();
-    let named = os::arg(i, &mut path);
-    if named == 0 {
-        io::write_all(
-            STDERR_FILENO,
-            b"the name of an image is empty or too long\n",
-        );
-        return;
-    }
-    if named == 1 && path[0] == b'-' {
-        return;
-    }
-    let mut image = io::buffer();
-    let end = put_image(&mut image, parts);
-    file::replace(&path[..named], &image[..end]);
 }
 
 // The report on a text in a version, and its image into the file that argument i names. What the reader
 // lets pass may be refused in that version, which is judged with the parts.
-fn report_text(version: u8, bytes: &[u8], i: usize) {
+fn report_text(
+    rt: &(impl Files + Env + Print + AllocGlobal),
+    err: Stderr,
+    version: u8,
+    bytes: &[u8],
+    i: usize,
+) -> io::Result<()> {
     let answer = netlist::read(bytes);
     let read = answer.verdict;
     if netlist::number_of(read) != 0 {
-        write_refusal(read);
-        return;
+        return write_refusal(rt, read);
     }
     let parts = image::in_version(version, answer.parts);
     let verdict = Verdict::Judged(image::judge(parts));
     if netlist::number_of(verdict) != 0 {
-        write_refusal(verdict);
-        return;
+        return write_refusal(rt, verdict);
     }
-    write_parts(parts);
-    write_image(parts, i);
+    write_parts(rt, parts)?;
+    write_image(rt, err, parts, i)
 }
 
 // The report on the text of this name, whose image goes into the file that argument i names.
-fn report_on(version: u8, path: &[u8], i: usize) {
-    // a descriptor below 0 is read as an empty file
-    let file = os::open_read(path);
+fn report_on(
+    rt: &(impl Files + Env + Print + AllocGlobal),
+    err: Stderr,
+    version: u8,
+    name: &[u8],
+    i: usize,
+) -> io::Result<()> {
     // longer than any text that is read
-    let mut bytes = io::large_buffer();
-    let n = io::read_full(file, &mut bytes);
-    libc::close(file);
-    report_text(version, &bytes[..n], i);
+    let mut bytes = outside::large_buffer();
+    let n = outside::read(rt, name, &mut bytes);
+    report_text(rt, err, version, &bytes[..n], i)
 }
 
-fn main() {
-    let count = os::arg_count();
+fn main(rt: HostRuntime) -> io::Result<()> {
+    let err = rt.stderr();
     let mut version = image::VERSION_2;
     let mut i: usize = 1;
-    while i < count {
-        let mut path = io::buffer();
-        let named = os::arg(i, &mut path);
+    while i < ENOUGH {
+        let mut name = outside::buffer();
+        let Some(named) = outside::argument(&rt, i, &mut name) else {
+            break;
+        };
         i += 1;
-        let asked = asked::version(&path[..named]);
-        match asked {
+        match asked::version(&name[..named]) {
             Asked::Version(other) => {
                 version = other;
             }
             Asked::Nothing => {
-                report_on(version, &path[..named], i);
+                report_on(&rt, err, version, &name[..named], i)?;
                 // the image's argument, if there is one
-                if i < count {
-                    i += 1;
-                }
+                i += 1;
             }
         }
     }
+    Ok(())
 }

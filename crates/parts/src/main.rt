@@ -13,46 +13,43 @@ mod nodes;
 ghost use Rattle.parts.specs.Answer.{Ready};
 
 use answer::Answer;
-use libc::STDOUT_FILENO;
+use std::io;
+use std::rt::Files;
 
 // The curves of a netlist, a line each.
-fn write_curves(answer: Answer)
+fn write_curves(out: &impl Print, answer: Answer) -> io::Result<()>
     requires { Ready answer }
 {
     let n = answer::curve_count(answer);
     let parts = answer.parts;
     let curves = parts.curves;
-    let mut k: usize = 0;
-    while k < n {
-        let mut text = io::buffer();
+    for k in 0..n {
+        let mut text = outside::buffer();
         let end = curve::put(&mut text, curves[k]);
-        io::write_all(STDOUT_FILENO, &text[..end]);
-        k += 1;
+        out.write_all(&text[..end])?;
     }
+    Ok(())
 }
 
-// The answer to the image that argument i names.
-fn report_on(i: usize) {
-    let mut path = io::buffer();
-    let named = os::arg(i, &mut path);
-    // a descriptor below 0 is read as an empty file
-    let file = os::open_read(&path[..named]);
+// The answer to the image of this name.
+fn report_on(rt: &(impl Files + Print), name: &[u8]) -> io::Result<()> {
     // longer than any image that is accepted
-    let mut image = io::buffer();
-    let n = io::read_full(file, &mut image);
-    libc::close(file);
+    let mut image = outside::buffer();
+    let n = outside::read(rt, name, &mut image);
     let answer = answer::to(&image[..n]);
-    let mut text = io::buffer();
+    let mut text = outside::buffer();
     let end = beginning::put(&mut text, answer);
-    io::write_all(STDOUT_FILENO, &text[..end]);
-    write_curves(answer);
+    rt.write_all(&text[..end])?;
+    write_curves(rt, answer)
 }
 
-fn main() {
-    let count = os::arg_count();
-    let mut i: usize = 1;
-    while i < count {
-        report_on(i);
-        i += 1;
+fn main(rt: HostRuntime) -> io::Result<()> {
+    for i in 1..usize::MAX {
+        let mut name = outside::buffer();
+        match outside::argument(&rt, i, &mut name) {
+            Some(n) => report_on(&rt, &name[..n])?,
+            None => break,
+        }
     }
+    Ok(())
 }
