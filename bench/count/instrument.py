@@ -15,8 +15,7 @@ COUNTED = """  %bench.old = load i64, ptr @bench_moves
   store i64 %bench.new, ptr @bench_moves
 """
 MARKED = "  call void @bench_sample()\n"
-# The sample's first parameter is where its number goes.
-LENT = "  call void @bench_lent(ptr %a1, ptr %a2, ptr %a3, ptr %a4)\n"
+LENT = "  call void @bench_lent(ptr %a0, ptr %a1, ptr %a2, ptr %a3)\n"
 OPENED = """
 define i64 @bench_net(ptr %board, ptr %stretches, ptr %stored, ptr %volts, i64 %node) {
   %net = call i64 @"circuit::node::net_current"(ptr %board, ptr %stretches, ptr %stored, ptr %volts, i64 %node)
@@ -25,7 +24,7 @@ define i64 @bench_net(ptr %board, ptr %stretches, ptr %stored, ptr %volts, i64 %
 """
 NET, MOVE, SAMPLE = "circuit::node::net_current", "circuit::nets::move_to", "solve::sample::sample"
 # The types of their parameters: another module's may take something else, and a call of the wrong types would go unseen.
-PARAMETERS = {NET: ["ptr"] * 4 + ["i64"], MOVE: ["ptr"] * 3 + ["i64"] * 2 + ["ptr"] * 2, SAMPLE: ["ptr"] * 5}
+PARAMETERS = {NET: ["ptr"] * 4 + ["i64"], MOVE: ["ptr"] * 3 + ["i64"] * 2 + ["ptr"] * 2, SAMPLE: ["ptr"] * 4}
 # For each way, the lines at the entry of both functions, and what comes with them.
 WAYS = {
     "count": (

@@ -8,7 +8,7 @@ set -eu
 in=$1 out=$2
 shift 2
 machine=$(uname -m)
-clang=$(dirname "$(dirname "$(rt doc)")")/on/$machine/toolchain/bin/clang
+clang=$(dirname "$(rt doc)")/toolchain/bin/clang
 case " $* $machine" in
 *" --target="*) ;;
 *x86_64) set -- --target=x86_64-unknown-linux-gnu -march=native -fPIC "$@" ;;
