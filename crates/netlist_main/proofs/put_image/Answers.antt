@@ -14,9 +14,7 @@ use Rattle.writing.specs.Image.{image_of}
 use Rattle.writing.specs.Writes.{Writes}
 use Rattle.writing.specs.declared.writer.Written.{Written}
 use Rattle.writing.proofs.Longest.{answers_enough}
-use borrow.Author.Rules.{rules}
-use Rattle.netlist_main.proofs.put_image.Statement.{statement}
-use Rattle.netlist_main.proofs.put_image.Tie as tie
+use Rattle.netlist_main.proofs.put_image.Goals as goal
 
 -- there is room for the image, so the writer writes it
 image-there : (parts : Parts) (before after : List ℕ) (w : Written) → judged parts ≡ Done → longest ≤ length before → Writes parts before w after → IsPrefixLen w.length after × (take w.length after ≡ image_of parts)
@@ -27,17 +25,7 @@ image-there parts before after w done room writes =
     let same : length (take w.length after) ≡ w.length = ap length there ∙ sym long in
     ((omega (arith, same, length-take w.length after), sym same), there)
 
-write-version-requires : tie.Need-write-version-requires
-write-version-requires c κs = search rules
-
-same_length : tie.Need-same-length
-same_length c = search rules
-
-returns : tie.Need-returns
+pub returns : goal.returns
 returns c =
-    let s = c.before.before.before.before.before in
-    let w = c.before.before.write-version in
-    image-there s.args.parts s.args.buffer.now _ w.result s.requires.0 s.requires.1 (rw (← own_version s.args.parts) w.ensures)
-
-pub put-image-spec : {M : Type 1} → statement M
-put-image-spec = tie.close (tie.spec write-version-requires same_length returns)
+    let w = c.write_version in
+    image-there c.args.parts c.args.buffer.now _ w.result c.requires.0 c.requires.1 (rw (← own_version c.args.parts) w.ensures)
