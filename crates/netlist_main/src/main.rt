@@ -117,8 +117,10 @@ fn report_text(
     if netlist::number_of(verdict) != 0 {
         return write_refusal(rt, verdict);
     }
-    write_parts(rt, parts)?;
-    write_image(rt, err, parts, i)
+    // a report that can't be written takes no image away
+    let told = write_parts(rt, parts);
+    let kept = write_image(rt, err, parts, i);
+    told.and(kept)
 }
 
 // The report on the text of this name, whose image goes into the file that argument i names.
@@ -137,6 +139,8 @@ fn report_on(
 
 fn main(rt: HostRuntime) -> io::Result<()> {
     let err = rt.stderr();
+    // the first error, once all arguments have been gone through
+    let mut outcome = Ok(());
     let mut version = image::VERSION_2;
     let mut i: usize = 1;
     while i < ENOUGH {
@@ -150,11 +154,12 @@ fn main(rt: HostRuntime) -> io::Result<()> {
                 version = other;
             }
             Asked::Nothing => {
-                report_on(&rt, err, version, &name[..named], i)?;
+                let told = report_on(&rt, err, version, &name[..named], i);
+                outcome = outcome.and(told);
                 // the image's argument, if there is one
                 i += 1;
             }
         }
     }
-    Ok(())
+    outcome
 }
