@@ -1,5 +1,6 @@
 // A file that is replaced as a whole: its name stands for its old bytes or for the new ones, whatever
 // fails between. No contract can say what is written, so this file is there to be read.
+use console::text;
 use std::fs::{File, OpenFile};
 use std::io::{ErrorKind, Stderr, Write};
 use std::rt::Files;
@@ -7,6 +8,9 @@ use std::{fs, io, str};
 
 // The longest name, so that `.part` and a 0 have room after it.
 const LONGEST: usize = 4090;
+
+// How long a lent buffer is.
+const LINE: usize = 4096;
 
 // Whether a file may be replaced: there is none, or a regular one. A device would be lost. A link is not
 // followed: it is the link that would be replaced.
@@ -33,10 +37,14 @@ fn tell(err: Stderr, name: &[u8], why: &str) {
 }
 
 // The same about a file at which a call has failed.
-fn tell_error(rt: &impl AllocGlobal, err: Stderr, name: &str, error: io::Error) -> io::Result<()> {
-    let text = error.to_string(rt.alloc())?;
-    tell(err, name.as_bytes(), words(text.as_str()));
-    Ok(())
+fn tell_error(err: Stderr, name: &str, error: io::Error) {
+    let mut line = outside::buffer();
+    let mut rest: &mut [u8] = &mut line;
+    // an error is a short line, which a buffer has room for
+    let _ = write!(rest, "{error}");
+    let end = LINE.saturating_sub(rest.len());
+    let text = str::from_utf8(&line[..end]).unwrap_or("");
+    tell(err, name.as_bytes(), words(text));
 }
 
 // Until a file's bytes are where they are kept: closing it would not say that this has failed. Where the
@@ -72,48 +80,36 @@ fn fill_and_rename<R: Files>(
 }
 
 // The bytes go to a new file beside it, which takes its name when all of them are there.
-fn replace_by(
-    rt: &(impl Files + AllocGlobal),
-    err: Stderr,
-    part: &str,
-    name: &str,
-    bytes: &[u8],
-) -> io::Result<()> {
-    match File::create(rt, part) {
-        Ok(file) => match fill_and_rename(rt, file, part, name, bytes) {
-            Ok(()) => Ok(()),
+fn replace_by(files: &impl Files, err: Stderr, part: &str, name: &str, bytes: &[u8]) {
+    match File::create(files, part) {
+        Ok(file) => match fill_and_rename(files, file, part, name, bytes) {
+            Ok(()) => {}
             Err(error) => {
-                let _ = fs::remove_file(rt, part);
-                tell_error(rt, err, name, error)
+                let _ = fs::remove_file(files, part);
+                tell_error(err, name, error);
             }
         },
-        Err(error) => tell_error(rt, err, part, error),
+        Err(error) => tell_error(err, part, error),
     }
 }
 
 // The same of a file whose name may be any bytes: those that are no text name none here.
-pub fn replace(
-    rt: &(impl Files + AllocGlobal),
-    err: Stderr,
-    name: &[u8],
-    bytes: &[u8],
-) -> io::Result<()> {
+pub fn replace(files: &impl Files, err: Stderr, name: &[u8], bytes: &[u8]) {
     if LONGEST < name.len() {
         tell(err, name, "the name is too long");
-        return Ok(());
+        return;
     }
-    match str::from_utf8(name) {
-        Ok(text) => {
-            if !is_replaceable(rt, text) {
-                tell(err, name, "not a regular file");
-                return Ok(());
+    let mut beside = outside::buffer();
+    let dot = text::put_word(&mut beside, 0, name);
+    let end = text::put_word(&mut beside, dot, b".part");
+    match (str::from_utf8(name), str::from_utf8(&beside[..end])) {
+        (Ok(name), Ok(part)) => {
+            if !is_replaceable(files, name) {
+                tell(err, name.as_bytes(), "not a regular file");
+                return;
             }
-            let part = format!(in rt.alloc(); "{text}.part")?;
-            replace_by(rt, err, part.as_str(), text, bytes)
+            replace_by(files, err, part, name, bytes);
         }
-        Err(_) => {
-            tell(err, name, "the name is not UTF-8");
-            Ok(())
-        }
+        _ => tell(err, name, "the name is not UTF-8"),
     }
 }

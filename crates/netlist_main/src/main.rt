@@ -72,12 +72,7 @@ fn put_image(buffer: &mut [u8], parts: Parts) -> usize
 }
 
 // The image into the file that argument i names, if one is wanted.
-fn write_image(
-    rt: &(impl Files + Env + AllocGlobal),
-    err: Stderr,
-    parts: Parts,
-    i: usize,
-) -> io::Result<()>
+fn write_image(rt: &(impl Files + Env), err: Stderr, parts: Parts, i: usize)
     requires { judged parts ≡ Done }
 {
     let mut name = outside::buffer();
@@ -85,23 +80,23 @@ fn write_image(
         Some(named) => {
             if named == 0 {
                 let _ = err.println("the name of an image is empty or too long");
-                return Ok(());
+                return;
             }
             if named == 1 && name[0] == b'-' {
-                return Ok(());
+                return;
             }
             let mut image = outside::buffer();
             let end = put_image(&mut image, parts);
-            file::replace(rt, err, &name[..named], &image[..end])
+            file::replace(rt, err, &name[..named], &image[..end]);
         }
-        None => Ok(()),
+        None => {}
     }
 }
 
 // The report on a text in a version, and its image into the file that argument i names. What the reader
 // lets pass may be refused in that version, which is judged with the parts.
 fn report_text(
-    rt: &(impl Files + Env + Print + AllocGlobal),
+    rt: &(impl Files + Env + Print),
     err: Stderr,
     version: u8,
     bytes: &[u8],
@@ -119,13 +114,13 @@ fn report_text(
     }
     // a report that can't be written takes no image away
     let told = write_parts(rt, parts);
-    let kept = write_image(rt, err, parts, i);
-    told.and(kept)
+    write_image(rt, err, parts, i);
+    told
 }
 
 // The report on the text of this name, whose image goes into the file that argument i names.
 fn report_on(
-    rt: &(impl Files + Env + Print + AllocGlobal),
+    rt: &(impl Files + Env + Print),
     err: Stderr,
     version: u8,
     name: &[u8],
