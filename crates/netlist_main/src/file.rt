@@ -6,11 +6,8 @@ use std::io::{ErrorKind, Stderr, Write};
 use std::rt::Files;
 use std::{fs, io, str};
 
-// The longest name, so that `.part` and a 0 have room after it.
+// The longest name: `.part`, and a 0 that the system wants, have room after it in 4,096 bytes.
 const LONGEST: usize = 4090;
-
-// How long a lent buffer is.
-const LINE: usize = 4096;
 
 // Whether a file may be replaced: there is none, or a regular one. A device would be lost. A link is not
 // followed: it is the link that would be replaced.
@@ -40,9 +37,10 @@ fn tell(err: Stderr, name: &[u8], why: &str) {
 fn tell_error(err: Stderr, name: &str, error: io::Error) {
     let mut line = outside::buffer();
     let mut rest: &mut [u8] = &mut line;
+    let room = rest.len();
     // an error is a short line, which a buffer has room for
     let _ = write!(rest, "{error}");
-    let end = LINE.saturating_sub(rest.len());
+    let end = room.saturating_sub(rest.len());
     let text = str::from_utf8(&line[..end]).unwrap_or("");
     tell(err, name.as_bytes(), words(text));
 }
