@@ -1,14 +1,22 @@
-// The code of network's definitions over a board: currents, net current, held conductance, steepest
+// The code of network's definitions over a circuit: currents, net current, held conductance, steepest
 // sum, net currents kept while nodes move, the advance of stored currents, and the least bound B. It reads
 // numbers and no bytes.
 #![tactic(auto)]
 
 pub mod advance;
-pub mod board;
-pub mod bound;
+mod board;
+mod bound;
 pub mod branch;
-pub mod index;
-pub mod nets;
-pub mod node;
+mod index;
+mod nets;
+mod node;
 pub mod places;
-pub mod shift;
+mod shift;
+
+// A circuit as its samples are played from it: the board of its numbers, and the table of its curves'
+// stretches. `specs/Board.antt` says when the two mean a network.
+#[derive(Clone, Copy)]
+pub struct Circuit {
+    pub board: [u64; 293],
+    pub stretches: [i64; 408],
+}

@@ -1,9 +1,0 @@
-use Prim.Native.Nat.{◌+◌, ◌-◌, ◌≤◌}
-use Rattle.circuit.proofs.ShiftLaws.{LeaksShifted}
-use Rattle.circuit.proofs.shift.leaks.Given as goal
-
-abbrev pub invariant-loop-i : goal.invariant-loop-i
-invariant-loop-i l = (l.i ≤ l.nodes + 1) × LeaksShifted l.board l.stretches l.stored l.volts l.s l.i l.nets
-
-abbrev pub decreases-loop-i : goal.decreases-loop-i
-decreases-loop-i l = l.nodes + 1 - l.i
