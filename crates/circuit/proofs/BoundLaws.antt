@@ -11,7 +11,9 @@ use Rattle.units.proofs.Integers.{decide_n}
 use Rattle.units.proofs.Sizes.{rounded_up_law}
 use Rattle.network.specs.Network.{held, steepest}
 use Rattle.network.specs.Bound.{LeastEnough}
+use Rattle.std.specs.Prelude.{Option, Some, None, SomeIff, ◌^◌}
 use Rattle.circuit.specs.Board.{nodes_on, driven_on, network_on}
+use Rattle.circuit.specs.Bound.{AtNode}
 
 -- e / h rounded down, and what is left of e with s rounded up, is (s + e) / h rounded up
 module _ (s h e : ℕ) (some : 0 < h) where
@@ -31,6 +33,13 @@ module _ (s h e : ℕ) (some : 0 < h) where
   least_here c l = ⊎_elim
       (λ (m : b ≤ c). m)
       (λ (m : c < b). absurd (omega (arith, spread, rounded_up_law (e % h + s) h some, div-add-mod e h, mul-le-mul_right h m, add-mul c 1 h))) (decide_n b c)
+
+  -- .. which is the least at one node, or does not fit
+  pub here : (r : Option ℕ) → SomeIff r (b < 2 ^ 64) b → AtNode s h e r
+  here (Some x) (fits, is) = rw is (enough_here, least_here)
+  here None big = λ c l. ⊎_elim
+      (λ (m : 2 ^ 64 ≤ c). m)
+      (λ (m : c < 2 ^ 64). absurd (big (omega (arith, least_here c l)))) (decide_n (2 ^ 64) c)
 
 -- the least that is enough at every free node up to i
 pub record UpTo (board : List ℕ) (stretches : List ℤ) (e i most : ℕ) : Type 0 where

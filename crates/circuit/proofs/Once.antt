@@ -13,10 +13,8 @@ use Rattle.circuit.specs.Board.{nodes_on, driven_on, count_on, network_on}
 use Rattle.circuit.specs.Advance.{AllKept, StoredTo, Advancing}
 use Rattle.circuit.specs.Bound.{Bounding}
 use Rattle.circuit.specs.Places.{Taken}
-use Rattle.circuit.specs.declared.advance.Advanced.{Advanced}
-use Rattle.circuit.specs.declared.advance.Advanced.TheVariants.{Stored, Beyond}
-use Rattle.circuit.specs.declared.bound.Bound.{Bound}
-use Rattle.circuit.specs.declared.bound.Bound.TheVariants.{Least, Nothing}
+use Rattle.circuit.specs.declared.advance.Beyond.{Beyond}
+use Rattle.std.specs.Prelude.{Result, Ok, Err, Option, Some, None}
 
 -- ---- the advance
 
@@ -29,31 +27,31 @@ module _ (board : List ℕ) (stretches volts before : List ℤ) where
       (λ (l : count_on board ≤ j). p.old j l ∙ sym (q.old j l))
       (λ (l : j < count_on board). p.new j l ∙ sym (q.new j l)) (decide_n (count_on board) j))
 
-  pub advance_once : (r s : Advanced) (a b : List ℤ) → Advancing board stretches volts before r a → Advancing board stretches volts before s b → (r ≡ s) × (a ≡ b)
-  advance_once Stored Stored a b p q = (refl, stored_once a b p.1 q.1)
-  advance_once Stored Beyond a b p q = absurd (not_both p.0 q.0)
-  advance_once Beyond Stored a b p q = absurd (not_both q.0 p.0)
-  advance_once Beyond Beyond a b p q = (refl, p.1 ∙ sym q.1)
+  pub advance_once : (r s : Result Unit Beyond) (a b : List ℤ) → Advancing board stretches volts before r a → Advancing board stretches volts before s b → (r ≡ s) × (a ≡ b)
+  advance_once (Ok _) (Ok _) a b p q = (refl, stored_once a b p.1 q.1)
+  advance_once (Ok _) (Err _) a b p q = absurd (not_both p.0 q.0)
+  advance_once (Err _) (Ok _) a b p q = absurd (not_both q.0 p.0)
+  advance_once (Err _) (Err _) a b p q = (refl, p.1 ∙ sym q.1)
 
 -- ---- the least bound, which as a u64 fits
 
-abbrev pub Fitting : Bound → Type 0
-Fitting (Least b) = b < 2 ^ 64
-Fitting Nothing = 0 < 2 ^ 64
+abbrev pub Fitting : Option ℕ → Type 0
+Fitting (Some b) = b < 2 ^ 64
+Fitting None = 0 < 2 ^ 64
 
 module _ (board : List ℕ) (stretches : List ℤ) (e : ℕ) where
-  none_else : (b : ℕ) → b < 2 ^ 64 → Bounding board stretches e (Least b) → Bounding board stretches e Nothing → ⊥
+  none_else : (b : ℕ) → b < 2 ^ 64 → Bounding board stretches e (Some b) → Bounding board stretches e None → ⊥
   none_else b fits p n = ⊎_elim
       (λ (d : driven_on board ≡ nodes_on board). omega (arith, d, p.0))
       (λ (none : (c : ℕ) → Enough (network_on board stretches) e c → 2 ^ 64 ≤ c). omega (arith, none b p.1.enough, fits)) n
 
-  pub least_once : (r s : Bound) → Fitting r → Fitting s → Bounding board stretches e r → Bounding board stretches e s → r ≡ s
-  least_once (Least b) (Least c) f g p q =
+  pub least_once : (r s : Option ℕ) → Fitting r → Fitting s → Bounding board stretches e r → Bounding board stretches e s → r ≡ s
+  least_once (Some b) (Some c) f g p q =
       let same : b ≡ c = omega (arith, p.1.least c q.1.enough, q.1.least b p.1.enough) in
-      ap Least same
-  least_once (Least b) Nothing f g p q = absurd (none_else b f p q)
-  least_once Nothing (Least c) f g p q = absurd (none_else c g q p)
-  least_once Nothing Nothing f g p q = refl
+      ap Some same
+  least_once (Some b) None f g p q = absurd (none_else b f p q)
+  least_once None (Some c) f g p q = absurd (none_else c g q p)
+  least_once None None f g p q = refl
 
 -- ---- places taken over
 

@@ -1,10 +1,9 @@
 -- The advance of stored currents, over a board. Assumes nothing.
-use Rattle.std.specs.Prelude.{◌≡◌, Bool, true, false, List, ℕ, ◌*◌, ◌^◌, ◌≤◌, ◌<◌, ℤ, pos, nat_abs, ◌*ℤ◌, length}
+use Rattle.std.specs.Prelude.{◌≡◌, Result, Ok, Err, Bool, true, false, List, ℕ, ◌*◌, ◌^◌, ◌≤◌, ◌<◌, ℤ, pos, nat_abs, ◌*ℤ◌, length}
 use Rattle.units.specs.Voltage.{Within}
 use Rattle.network.specs.Network.{advance, conductance_of, next, reading, stored_limit}
 use Rattle.circuit.specs.Board.{count_on, plain_conductance, branch_on, network_on, across_on}
-use Rattle.circuit.specs.declared.advance.Advanced.{Advanced}
-use Rattle.circuit.specs.declared.advance.Advanced.TheVariants.{Stored, Beyond}
+use Rattle.circuit.specs.declared.advance.Beyond.{Beyond}
 
 -- twice the conductance of element j times its voltage; the bound is for sums
 pub record Twice (board : List ℕ) (volts : List ℤ) (j : ℕ) (r : ℤ) : Type 0 where
@@ -27,6 +26,6 @@ pub record StoredTo (board : List ℕ) (stretches volts before : List ℤ) (n : 
   pub old : (j : ℕ) → n ≤ j → reading after j ≡ reading before j
 
 -- what an advance leaves: every new stored current, all within their limit, or everything as it was
-abbrev pub Advancing : List ℕ → List ℤ → List ℤ → List ℤ → Advanced → List ℤ → Type 0
-Advancing board stretches volts before Stored after = AllKept board stretches volts before true × StoredTo board stretches volts before (count_on board) after
-Advancing board stretches volts before Beyond after = AllKept board stretches volts before false × (after ≡ before)
+abbrev pub Advancing : List ℕ → List ℤ → List ℤ → List ℤ → Result Unit Beyond → List ℤ → Type 0
+Advancing board stretches volts before (Ok _) after = AllKept board stretches volts before true × StoredTo board stretches volts before (count_on board) after
+Advancing board stretches volts before (Err _) after = AllKept board stretches volts before false × (after ≡ before)

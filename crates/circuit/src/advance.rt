@@ -17,13 +17,9 @@ pub fn is_kept(x: i64) -> bool
 {
     signed::size(x) <= LIMIT
 }
-// What came of an advance: all stored currents are the new ones, or one of those would be beyond its
-// limit and all are as they were.
+// A stored current would be beyond its limit.
 #[derive(Clone, Copy)]
-pub enum Advanced {
-    Stored,
-    Beyond,
-}
+pub struct Beyond;
 
 impl Circuit {
     // Twice what the conductance of element j carries at its voltage.
@@ -54,22 +50,20 @@ impl Circuit {
 
     // All stored currents after a sample with these voltages, if every one is within its limit. Each is stored
     // where it was; if one is beyond its limit, all are put back.
-    pub fn advance(&self, volts: &[i64; 16], stored: &mut [i64; 32]) -> Advanced
+    pub fn advance(&self, volts: &[i64; 16], stored: &mut [i64; 32]) -> Result<(), Beyond>
         requires { Evaluable self.now.board self.now.stretches stored.old volts.now × (length stored.old ≡ 32) }
         ensures { Advancing self.now.board self.now.stretches volts.now stored.old result stored.new }
     {
         let count = self.count();
         let before = *stored;
-        let mut j: usize = 0;
-        while j < count {
+        for j in 0..count {
             let x = self.next_stored(volts, j, stored[j]);
             if !is_kept(x) {
                 *stored = before;
-                return Advanced::Beyond;
+                return Err(Beyond);
             }
             stored[j] = x;
-            j += 1;
         }
-        Advanced::Stored
+        Ok(())
     }
 }

@@ -18,10 +18,8 @@ impl Circuit {
         let nodes = self.nodes();
         let leak = signed::whole(self.leak());
         let mut nets = [0i64; 16];
-        let mut i: usize = 0;
-        while i <= nodes {
+        for i in 0..nodes + 1 {
             nets[i] = signed::times(leak, volts[i]);
-            i += 1;
         }
         nets
     }
@@ -34,14 +32,12 @@ impl Circuit {
     {
         let count = self.count();
         let mut nets = self.leaked(volts);
-        let mut j: usize = 0;
-        while j < count {
+        for j in 0..count {
             let p = self.end_p(j);
             let q = self.end_q(j);
             let c = self.carried(j, stored[j], signed::minus(volts[p], volts[q]));
             nets[p] = signed::plus(nets[p], c);
             nets[q] = signed::minus(nets[q], c);
-            j += 1;
         }
         nets
     }
@@ -60,20 +56,17 @@ impl Circuit {
         requires { Evaluable self.now.board self.now.stretches stored.now volts.now × (length volts.now ≡ 16) × Netted self.now.board self.now.stretches stored.now volts.now nets.old × (i ≤ nodes_on self.now.board) × InRange v }
         ensures { Spread self.now.board self.now.stretches stored.now volts.now i v result nets.new }
     {
-        let after = self.start(i + 1);
         let own = volts[i];
         let mut sum = signed::plus(
             nets[i],
             signed::times(signed::whole(self.leak()), signed::minus(v, own)),
         );
-        let mut k = self.start(i);
-        while k < after {
+        for k in self.start(i)..self.start(i + 1) {
             let end = self.end(k);
             let other = self.other(end);
             let more = self.more(stored, volts, own, v, end, other);
             nets[other] = signed::minus(nets[other], more);
             sum = signed::plus(sum, more);
-            k += 1;
         }
         sum
     }

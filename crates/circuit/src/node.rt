@@ -13,13 +13,10 @@ impl Circuit {
         requires { Evaluable self.now.board self.now.stretches stored.now volts.now × (node ≤ nodes_on self.now.board) }
         ensures { result ≡ net 1 (network_on self.now.board self.now.stretches) (reading stored.now) (reading volts.now) node }
     {
-        let after = self.start(node + 1);
         let own = volts[node];
         let mut sum = signed::times(signed::whole(self.leak()), own);
-        let mut k = self.start(node);
-        while k < after {
+        for k in self.start(node)..self.start(node + 1) {
             sum = signed::plus(sum, self.leaving(stored, volts, own, self.end(k)));
-            k += 1;
         }
         sum
     }
@@ -45,11 +42,8 @@ impl Circuit {
         if node > self.nodes() {
             return total;
         }
-        let after = self.start(node + 1);
-        let mut k = self.start(node);
-        while k < after {
+        for k in self.start(node)..self.start(node + 1) {
             total += self.held_by(self.end(k));
-            k += 1;
         }
         total
     }
@@ -63,11 +57,8 @@ impl Circuit {
         if node > self.nodes() {
             return sum;
         }
-        let after = self.start(node + 1);
-        let mut k = self.start(node);
-        while k < after {
+        for k in self.start(node)..self.start(node + 1) {
             sum += self.steepest_slope(self.end(k) / 2);
-            k += 1;
         }
         sum
     }

@@ -21,9 +21,7 @@ pub fn take(from: &[i64; 16], first: usize, end: usize, to: &mut [i64; 16])
     requires { (first ≤ end) × (end ≤ 16) × (length to.old ≡ 16) }
     ensures { Taken from.now first end to.old to.new }
 {
-    let mut i = first;
-    while i < end {
+    for i in first..end {
         to[i] = from[i];
-        i += 1;
     }
 }

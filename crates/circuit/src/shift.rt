@@ -22,10 +22,8 @@ impl Circuit {
     {
         let nodes = self.nodes();
         let leak = signed::whole(self.leak());
-        let mut i: usize = 0;
-        while i <= nodes {
+        for i in 0..nodes + 1 {
             nets[i] = signed::plus(nets[i], signed::times(leak, signed::minus(s[i], volts[i])));
-            i += 1;
         }
     }
 
@@ -60,10 +58,8 @@ impl Circuit {
     {
         self.leaks_shift(stored, volts, s, nets);
         let count = self.count();
-        let mut j: usize = 0;
-        while j < count {
+        for j in 0..count {
             self.element_shift(stored, volts, s, j, nets);
-            j += 1;
         }
     }
 }

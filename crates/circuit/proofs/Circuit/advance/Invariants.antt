@@ -1,4 +1,4 @@
-use Prim.Native.Nat.{ℕ, ◌-◌, ◌≤◌, ◌<◌}
+use Prim.Native.Nat.{ℕ, ◌≤◌, ◌<◌}
 use Rattle.units.specs.Voltage.{Within}
 use Rattle.network.specs.Network.{next, reading, stored_limit}
 use Rattle.circuit.specs.Board.{network_on}
@@ -7,6 +7,3 @@ use Rattle.circuit.proofs.Circuit.advance.Given as goal
 
 abbrev pub invariant-loop-j : goal.invariant-loop-j
 invariant-loop-j l = (l.j ≤ l.count) × ((i : ℕ) → i < l.j → Within stored_limit (next (network_on l.self.board l.self.stretches) (reading l.initial.stored) (reading l.volts) i)) × StoredTo l.self.board l.self.stretches l.volts l.initial.stored l.j l.stored
-
-abbrev pub decreases-loop-j : goal.decreases-loop-j
-decreases-loop-j l = l.count - l.j

@@ -1,11 +1,8 @@
 use mathlib.Core.Path.{◌≡◌}
-use Prim.Native.Nat.{◌+◌, ◌-◌, ◌≤◌}
+use Prim.Native.Nat.{◌+◌, ◌≤◌}
 use Rattle.circuit.specs.Board.{start_on}
 use Rattle.circuit.proofs.NodeLaws.{added, held_each}
 use Rattle.circuit.proofs.Circuit.held.Given as goal
 
 abbrev pub invariant-loop-k : goal.invariant-loop-k
-invariant-loop-k l = (start_on l.self.board l.node ≤ l.k) × (l.k ≤ l.after) × (l.after ≡ start_on l.self.board (l.node + 1)) × (l.total ≡ added l.self.board (held_each l.self.board l.self.stretches l.node) l.node l.k)
-
-abbrev pub decreases-loop-k : goal.decreases-loop-k
-decreases-loop-k l = l.after - l.k
+invariant-loop-k l = (start_on l.self.board l.node ≤ l.k) × (l.k ≤ l.k-end) × (l.k-end ≡ start_on l.self.board (l.node + 1)) × (l.total ≡ added l.self.board (held_each l.self.board l.self.stretches l.node) l.node l.k)

@@ -1,10 +1,7 @@
-use Prim.Native.Nat.{◌-◌, ◌≤◌}
+use Prim.Native.Nat.{◌≤◌}
 use Rattle.circuit.specs.Board.{driven_on}
 use Rattle.circuit.proofs.BoundLaws.{UpTo}
 use Rattle.circuit.proofs.Circuit.least_bound.Given as goal
 
-abbrev pub invariant-loop-i : goal.invariant-loop-i
-invariant-loop-i l = (driven_on l.self.board ≤ l.i) × (l.i ≤ l.nodes) × UpTo l.self.board l.self.stretches l.e l.i l.most
-
-abbrev pub decreases-loop-i : goal.decreases-loop-i
-decreases-loop-i l = l.nodes - l.i
+abbrev pub invariant-loop-k : goal.invariant-loop-k
+invariant-loop-k l = (driven_on l.self.board ≤ l.k) × (l.k ≤ l.nodes) × UpTo l.self.board l.self.stretches l.e l.k l.most

@@ -15,7 +15,7 @@ pub loop-k-init : goal.loop-k-init
 loop-k-init c =
     let at-leak : to_z w64 (of_z w64 c.whole.result) ≡ pos (leak_on c.args.self.now.board) = let e : to_z w64 (of_z w64 c.whole.result) ≡ c.whole.result = search rules in e ∙ c.whole.ensures ∙ ap pos c.leak.ensures in
     let at-node : to_z w64 (of_z w64 (reading c.args.volts.now c.args.node)) ≡ reading c.args.volts.now c.args.node = search rules in
-    let a = c.start-after.ensures in
+    let a = c.start-k-end.ensures in
     let e : to_z w64 (of_z w64 c.times-sum.result) ≡ c.times-sum.result = search rules in (
       omega (arith, c.start-k.ensures),
       omega (arith, c.start-k.ensures, a, after_is c.args.self.now.board c.args.self.now.stretches c.requires.0.ready.laid c.args.node c.requires.1),

@@ -34,7 +34,7 @@ loop-k-init c =
     let at-far : to_z w64 (of_z w64 c.minus.result) ≡ to_z w64 (of_z w64 c.args.v) -ℤ reading c.args.volts.now c.args.i = let e : to_z w64 (of_z w64 c.minus.result) ≡ c.minus.result = search rules in e ∙ (rw at_own at c.minus.ensures) in
     let at-leak-more : to_z w64 (of_z w64 c.times.result) ≡ pos (leak_on c.args.self.now.board) *ℤ (to_z w64 (of_z w64 c.args.v) -ℤ reading c.args.volts.now c.args.i) = let e : to_z w64 (of_z w64 c.times.result) ≡ c.times.result = search rules in e ∙ (rw (at-leak, at-far) at c.times.ensures) in
     let ranged : InRange (to_z w64 (of_z w64 c.args.v)) = rw (to_z-of_z c.ranges.v) c.requires.4 in
-    let a = c.start-after.ensures in
+    let a = c.start-k-end.ensures in
     let e : to_z w64 (of_z w64 c.plus-sum.result) ≡ c.plus-sum.result = search rules in
     let k = sym c.start-k.ensures in (
       omega (arith, c.start-k.ensures),

@@ -16,8 +16,8 @@ loop-k-init c =
     let node-there : c.args.node ≤ nodes_on c.args.self.now.board = omega (arith, c.if-node-nodes.false, c.nodes.ensures) in
     let e : c.start-k.result ≡ start_on c.args.self.now.board c.args.node = c.start-k.ensures in (
       omega (arith, e),
-      omega (arith, e, c.start-after.ensures, after_is c.args.self.now.board c.args.self.now.stretches c.requires c.args.node node-there),
-      c.start-after.ensures,
+      omega (arith, e, c.start-k-end.ensures, after_is c.args.self.now.board c.args.self.now.stretches c.requires c.args.node node-there),
+      c.start-k-end.ensures,
       c.leak-sum.ensures ∙ sym (added_none c.args.self.now.board c.args.node (steepest_each c.args.self.now.board c.args.self.now.stretches c.args.node)) ∙ ap (added c.args.self.now.board (steepest_each c.args.self.now.board c.args.self.now.stretches c.args.node) c.args.node) (sym e),
     )
 
