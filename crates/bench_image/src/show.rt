@@ -5,7 +5,6 @@ use image::{Element, Parts};
 use std::io;
 use std::io::Stdout;
 use std::num::wrapping_add_usize as plus;
-use units::number;
 use units::number::Number;
 
 // Document 01's number of the first n bytes of s.
@@ -21,13 +20,12 @@ fn number_in(s: &[u8], n: usize) -> u64 {
 
 // The reader's number, or rule 6's of an image that it opened.
 fn judged(number: Number, parts: Parts) -> u64 {
-    let n = number::value(number);
-    if n == 0 {
+    if number == Number::Done {
         if !image::conductances_fit(parts) {
-            return number::value(Number::Conductance);
+            return u64::from(Number::Conductance);
         }
     }
-    n
+    u64::from(number)
 }
 
 // The array as a slice.
@@ -133,7 +131,7 @@ fn head(out: Stdout, leak: u64, p: Parts) -> io::Result<()> {
 
 // A refusal has no leak.
 fn leak(number: Number, version: u8) -> u64 {
-    if number::value(number) == 0 {
+    if number == Number::Done {
         return image::leak(version);
     }
     0

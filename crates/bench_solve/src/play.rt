@@ -11,8 +11,8 @@ use solve::sample;
 use std::io;
 use std::io::Stdout;
 use units::number::Number;
+use units::signed;
 use units::voltage::Voltage;
-use units::{number, signed};
 
 // The drive of sample k: two sines of 2 V together, 440 and 1,000 Hz.
 fn drive(k: u64) -> i64 {
@@ -76,7 +76,7 @@ fn attempt(
     requires { Playable board.now stretches.now stored.now }
 {
     let mut x = *stored;
-    number::value(sample::sample(board, stretches, volts, &mut x))
+    u64::from(sample::sample(board, stretches, volts, &mut x))
 }
 
 // Whether nodes stand alike, up to the last that is there.
@@ -131,7 +131,7 @@ fn advanced(
     let mut volts = propose(0, board::driven(board), d, last);
     let r = sample::sample(board, stretches, &mut volts, stored);
     *last = volts;
-    number::value(r)
+    u64::from(r)
 }
 
 // One more voltage in a checksum.
@@ -266,7 +266,7 @@ fn opened(out: Stdout, parts: Parts, n: u64, at: usize, x: i64, d: i64) -> io::R
     requires { Sound parts }
 {
     if !image::conductances_fit(parts) {
-        return stopped(out, number::value(Number::Conductance));
+        return stopped(out, u64::from(Number::Conductance));
     }
     let mut stretches = [0i64; 408];
     opening::stretches(parts, &mut stretches);
@@ -285,7 +285,7 @@ fn played(out: Stdout, image: &[u8], n: u64, at: usize, x: i64, d: i64) -> io::R
     let number = o.number;
     match number {
         Number::Done => opened(out, o.parts, n, at, x, d),
-        _ => stopped(out, number::value(number)),
+        _ => stopped(out, u64::from(number)),
     }
 }
 

@@ -7,14 +7,14 @@ ghost use Rattle.units.specs.Voltage.{voltage_limit};
 
 use std::io;
 use std::io::Stdout;
-use units::voltage::{Nearest, Voltage};
+use units::voltage::Voltage;
 use units::{bytes, ratio, signed};
 
 // The nearest voltage to x, behind the way that x is written.
 fn nearest(out: Stdout, written: &str, x: f64) -> io::Result<()> {
     match Voltage::from_f64(x) {
-        Nearest::At(v) => println!(out; "{written} is nearest to {}", v.microvolts),
-        Nearest::Nothing => println!(out; "{written} is no voltage"),
+        Some(v) => println!(out; "{written} is nearest to {}", v.microvolts),
+        None => println!(out; "{written} is no voltage"),
     }
 }
 
@@ -31,13 +31,13 @@ fn comes_back(v: i64) -> u64
 {
     let there = Voltage { microvolts: v };
     match Voltage::from_f64(there.to_f64()) {
-        Nearest::At(back) => {
+        Some(back) => {
             if back.microvolts == v {
                 return 1;
             }
             0
         }
-        Nearest::Nothing => 0,
+        None => 0,
     }
 }
 
@@ -73,11 +73,11 @@ fn readings(out: Stdout, b: [u8; 8]) -> io::Result<()> {
     let s: &[u8] = &b;
     println!(out;
         "{:016x}: {} {} {} {}",
-        bytes::u64_at(s, 0),
-        bytes::u16_at(s, 0),
-        bytes::u32_at(s, 0),
-        bytes::i32_at(s, 0),
-        bytes::i64_at(s, 0)
+        bytes::unsigned_at::<8>(s, 0),
+        bytes::unsigned_at::<2>(s, 0),
+        bytes::unsigned_at::<4>(s, 0),
+        bytes::signed_at::<4>(s, 0),
+        bytes::signed_at::<8>(s, 0)
     )
 }
 
@@ -85,12 +85,12 @@ fn readings(out: Stdout, b: [u8; 8]) -> io::Result<()> {
 fn stores(out: Stdout, z: i64) -> io::Result<()> {
     let mut b = [170u8; 16];
     let s: &mut [u8] = &mut b;
-    bytes::put_i32(s, 1, z);
-    bytes::put_i64(s, 6, z);
+    bytes::put_signed::<4>(s, 1, z);
+    bytes::put_signed::<8>(s, 6, z);
     println!(out;
         "{z}: {:016x} {:016x}",
-        bytes::u64_at(s, 0),
-        bytes::u64_at(s, 8)
+        bytes::unsigned_at::<8>(s, 0),
+        bytes::unsigned_at::<8>(s, 8)
     )
 }
 

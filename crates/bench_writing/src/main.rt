@@ -31,7 +31,7 @@ fn unwritten() -> [u8; record::LONG]
 
 fn write_number(out: &impl Print, n: u64) -> io::Result<()> {
     let mut eight = [0u8; 8];
-    bytes::put_u64(&mut eight, 0, n);
+    bytes::put_unsigned::<8>(&mut eight, 0, n);
     out.write_all(&eight)
 }
 

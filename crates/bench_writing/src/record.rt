@@ -30,7 +30,7 @@ fn element(raw: &[u8], at: usize) -> Element
         p: raw[at + 1],
         q: raw[at + 2],
         curve: raw[at + 3],
-        value: bytes::u32_at(raw, at + 4) as u32,
+        value: bytes::unsigned_at::<4>(raw, at + 4) as u32,
     }
 }
 
@@ -50,7 +50,7 @@ fn slopes(raw: &[u8], at: usize) -> [u32; 17]
 {
     let mut slopes = [0; 17];
     for j in 0..17usize {
-        slopes[j] = bytes::u32_at(raw, at + 4 * j) as u32;
+        slopes[j] = bytes::unsigned_at::<4>(raw, at + 4 * j) as u32;
     }
     slopes
 }
@@ -60,7 +60,7 @@ fn breakpoints(raw: &[u8], at: usize) -> [i32; 16]
 {
     let mut breakpoints = [0; 16];
     for j in 0..16usize {
-        breakpoints[j] = bytes::i32_at(raw, at + 4 * j) as i32;
+        breakpoints[j] = bytes::signed_at::<4>(raw, at + 4 * j) as i32;
     }
     breakpoints
 }
@@ -93,7 +93,7 @@ pub fn room(raw: &[u8]) -> usize
     requires { 1334 ≤ length raw.now }
     ensures { result < 2048 }
 {
-    bytes::u16_at(raw, 0) as usize % LONG
+    bytes::unsigned_at::<2>(raw, 0) as usize % LONG
 }
 
 // Whether the writer is given a version.
@@ -120,7 +120,7 @@ pub fn parts(raw: &[u8]) -> Parts
         nodes: raw[5],
         driven: raw[6],
         output: raw[7],
-        rate: bytes::u32_at(raw, 8) as u32,
+        rate: bytes::unsigned_at::<4>(raw, 8) as u32,
         element_count: raw[12],
         elements,
         curve_count: raw[13],

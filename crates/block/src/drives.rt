@@ -12,7 +12,7 @@ pub fn place(drives: &[u8], driven: usize, j: usize, volts: &mut [i64; 16])
     let first = j * driven;
     let mut i: usize = 0;
     while i < driven {
-        volts[1 + i] = bytes::i32_at(drives, 4 * (first + i));
+        volts[1 + i] = bytes::signed_at::<4>(drives, 4 * (first + i));
         i += 1;
     }
 }

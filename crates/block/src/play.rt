@@ -10,7 +10,6 @@ ghost use Rattle.block.specs.Playing.{Admits, state_of};
 
 use crate::{lengths, run, state};
 use image::Parts;
-use units::number;
 use units::number::Number;
 
 // What comes of an image: document 01's number, up to 6, and the parts if that is 0.
@@ -27,7 +26,7 @@ pub fn admit(image: &[u8]) -> Admission
     let opened = image::read(image);
     let parts = opened.parts;
     let answer = opened.number;
-    let number = number::value(answer);
+    let number = u64::from(answer);
     if number != 0 {
         return Admission { number, parts };
     }
@@ -35,7 +34,7 @@ pub fn admit(image: &[u8]) -> Admission
         return Admission { number, parts };
     }
     Admission {
-        number: number::value(Number::Conductance),
+        number: u64::from(Number::Conductance),
         parts,
     }
 }
@@ -44,7 +43,7 @@ pub fn admit(image: &[u8]) -> Admission
 pub fn refused(answer: Number) -> u64
     ensures { result ≡ number_of answer * 65536 }
 {
-    number::value(answer) * 65536
+    u64::from(answer) * 65536
 }
 
 // A block of a circuit that can be played: its number times 65,536, and the count of the samples that

@@ -10,8 +10,8 @@ ghost use Rattle.block.specs.Playing.{Driven, Room, Ran};
 use crate::drives;
 use circuit::board;
 use solve::sample;
+use units::bytes;
 use units::number::Number;
-use units::{bytes, number};
 
 // Where sample j begins: its drives at the driven nodes, and at the free nodes a guess, which may be
 // anything. The last five arrays are what the guess keeps from sample to sample.
@@ -80,7 +80,7 @@ pub fn run(
     let mut way = [[0.0f64; 15]; 34];
     let mut j: usize = 0;
     while j < n {
-        let number = number::value(next(
+        let number = u64::from(next(
             board,
             stretches,
             drives,
@@ -96,7 +96,7 @@ pub fn run(
         if number != 0 {
             return number * 65536 + (j as u64);
         }
-        bytes::put_i32(outputs, 4 * j, volts[output]);
+        bytes::put_signed::<4>(outputs, 4 * j, volts[output]);
         j += 1;
     }
     j as u64

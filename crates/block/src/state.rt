@@ -17,7 +17,7 @@ pub fn read(state: &[u8]) -> [i64; 32]
     let mut x = [0i64; 32];
     let mut j: usize = 0;
     while j < 32 {
-        x[j] = bytes::i64_at(state, 8 * j);
+        x[j] = bytes::signed_at::<8>(state, 8 * j);
         j += 1;
     }
     x
@@ -30,7 +30,7 @@ pub fn write(state: &mut [u8], x: &[i64; 32])
 {
     let mut j: usize = 0;
     while j < 32 {
-        bytes::put_i64(state, 8 * j, x[j]);
+        bytes::put_signed::<8>(state, 8 * j, x[j]);
         j += 1;
     }
 }

@@ -8,7 +8,6 @@ ghost use Rattle.bound.specs.Answer.{Refusal, ReportOn, Answered};
 
 use console::text;
 use image::Parts;
-use units::number;
 use units::number::Number;
 
 // `refused R`, at the start of `text`.
@@ -16,7 +15,7 @@ fn put_refused(text: &mut [u8], number: Number) -> usize
     requires { 4096 ≤ length text.old }
     ensures { Refusal number text.old result text.new × (result ≤ 4096) }
 {
-    text::put_refused(text, number::value(number))
+    text::put_refused(text, u64::from(number))
 }
 
 // The report on an opened image, or rule 6's number: reading alone does not ask it.

@@ -8,7 +8,7 @@ use crate::newton::Ending;
 use crate::tangent::Tangent;
 use crate::{tangent, whole};
 use circuit::{board, branch};
-use units::voltage::{Nearest, Voltage};
+use units::voltage::Voltage;
 
 fn float_at(volts: &[i64; 16], i: usize) -> f64
     requires { i ≤ 15 }
@@ -82,12 +82,12 @@ fn place_node(board: &[u64; 293], x: f64, node: usize, volts: &mut [i64; 16]) ->
     ensures { Standing board.now volts.new }
 {
     match Voltage::from_f64(x) {
-        Nearest::At(v) => {
+        Some(v) => {
             let at = v.microvolts;
             volts[node] = at;
             true
         }
-        Nearest::Nothing => false,
+        None => false,
     }
 }
 

@@ -46,14 +46,14 @@ pub fn slope(bytes: &[u8], j: usize) -> u64
     requires { 8 + 4 * j ≤ length bytes.now }
     ensures { result ≡ slope_of bytes.now j }
 {
-    bytes::u32_at(bytes, 4 + 4 * j)
+    bytes::unsigned_at::<4>(bytes, 4 + 4 * j)
 }
 
 pub fn breakpoint(bytes: &[u8], j: usize) -> i64
     requires { 12 + 4 * get_or bytes.now 0 0 + 4 * j ≤ length bytes.now }
     ensures { result ≡ breakpoint_of bytes.now j }
 {
-    bytes::i32_at(bytes, 8 + 4 * breakpoint_count(bytes) + 4 * j)
+    bytes::signed_at::<4>(bytes, 8 + 4 * breakpoint_count(bytes) + 4 * j)
 }
 
 // The first n slopes.

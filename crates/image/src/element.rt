@@ -19,7 +19,7 @@ fn element_at(image: &[u8], j: usize) -> Element
         p: image[at + 1],
         q: image[at + 2],
         curve: image[at + 3],
-        value: bytes::u32_at(image, at + 4) as u32,
+        value: bytes::unsigned_at::<4>(image, at + 4) as u32,
     }
 }
 

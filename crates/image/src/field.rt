@@ -16,5 +16,5 @@ pub fn short(s: &[u8], at: usize) -> usize
     requires { at + 2 ≤ length s.now }
     ensures { Spells 2 s.now at result }
 {
-    bytes::u16_at(s, at) as usize
+    bytes::unsigned_at::<2>(s, at) as usize
 }

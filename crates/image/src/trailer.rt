@@ -38,7 +38,7 @@ pub fn header_at(image: &[u8], at: usize) -> Parts
     header.nodes = image[at + 6];
     header.driven = image[at + 7];
     header.output = image[at + 12];
-    header.rate = bytes::u32_at(image, at + 8) as u32;
+    header.rate = bytes::unsigned_at::<4>(image, at + 8) as u32;
     header.element_count = image[at + 4];
     header.curve_count = image[at + 5];
     header

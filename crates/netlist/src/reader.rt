@@ -7,7 +7,6 @@ use super::{draft, line};
 use console::words;
 use console::words::Run;
 use image::Parts;
-use units::number;
 use units::number::Number;
 
 // How the reading ended: the parts were judged by the rules, which may have let them pass; a line is
@@ -38,7 +37,7 @@ pub fn number_of(verdict: Verdict) -> u64
     ensures { result ≡ number_of verdict }
 {
     match verdict {
-        Verdict::Judged(n) => number::value(n),
+        Verdict::Judged(n) => u64::from(n),
         Verdict::Grammar(line) => GRAMMAR,
         Verdict::Value(line) => VALUE,
     }
@@ -67,7 +66,7 @@ fn refused(verdict: Verdict) -> Answer
 fn by_rules(number: Number, parts: Parts) -> Parts
     ensures { result ≡ by_rules number parts }
 {
-    if number::value(number) == 0 {
+    if u64::from(number) == 0 {
         return parts;
     }
     image::no_parts()

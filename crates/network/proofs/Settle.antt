@@ -16,7 +16,7 @@ use Rattle.network.specs.Network.{Network, Fixed, Free, reading, net, steepest, 
 use Rattle.network.specs.Sample.{Drives, Legal, Under, Above, Answer, Empty}
 use Rattle.network.specs.Search.{Covers, Settling, Settled, NoneUnder, lowered, Sank, still, sunk}
 use Rattle.network.proofs.Hold.{keep_drives, leak_steepest}
-use Rattle.network.proofs.Lowering.{lowered_law, lowered_here, lowered_under, lowered_further, store_lowers}
+use Rattle.network.proofs.Lowering.{lowered_law, lowered_here, lowered_under, store_lowers}
 use Rattle.network.proofs.Descend.{descend, sank_under, sank_drives, lowered_drives, allowed}
 
 -- ---- beginning and end

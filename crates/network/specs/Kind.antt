@@ -1,6 +1,8 @@
 -- The kinds of element, by document 01's numbers, and what each is as a branch. Assumes nothing.
-use Rattle.std.specs.Prelude.{Bool, ◌||◌, cond, ℕ, eqb}
+use Rattle.std.specs.Prelude.{Bool, ◌||◌, cond, ℕ, eqb, Option, Some, None}
 use Rattle.network.specs.Network.{Store, nothing, capacitor, inductor}
+use Rattle.network.specs.declared.kind.Kind.{Kind}
+use Rattle.network.specs.declared.kind.Kind.TheVariants.{Resistor, Capacitor, Inductor, Diode}
 
 abbrev pub resistor_kind : ℕ
 resistor_kind = 1
@@ -13,6 +15,20 @@ inductor_kind = 3
 
 abbrev pub diode_kind : ℕ
 diode_kind = 4
+
+-- the number of each kind, and the kind that has a number, if one does
+abbrev pub number_of : Kind → ℕ
+number_of Resistor = resistor_kind
+number_of Capacitor = capacitor_kind
+number_of Inductor = inductor_kind
+number_of Diode = diode_kind
+
+abbrev pub kind_of : ℕ → Option Kind
+kind_of number =
+    cond (eqb number resistor_kind) (Some Resistor)
+    (cond (eqb number capacitor_kind) (Some Capacitor)
+    (cond (eqb number inductor_kind) (Some Inductor)
+    (cond (eqb number diode_kind) (Some Diode) None)))
 
 -- whether its current follows a curve; that of any other goes by a conductance
 abbrev pub has_curve : ℕ → Bool

@@ -6,7 +6,6 @@ ghost use Rattle.parts.specs.Answer.{judged_outcome, Answers, curves_after};
 
 use super::nodes;
 use image::Parts;
-use units::number;
 use units::number::Number;
 
 // The number that refuses the image, a node count that no netlist has, or a netlist.
@@ -30,7 +29,7 @@ fn judged(parts: Parts) -> Outcome
     ensures { result ≡ judged_outcome parts }
 {
     if !image::conductances_fit(parts) {
-        return Outcome::Refused(number::value(Number::Conductance));
+        return Outcome::Refused(u64::from(Number::Conductance));
     }
     if nodes::highest_named(parts) < parts.nodes {
         return Outcome::Unnamed(parts.nodes as u64);
@@ -51,7 +50,7 @@ pub fn to(image: &[u8]) -> Answer
             Answer { outcome, parts }
         }
         _ => {
-            let outcome = Outcome::Refused(number::value(number));
+            let outcome = Outcome::Refused(u64::from(number));
             Answer { outcome, parts }
         }
     }

@@ -15,7 +15,7 @@ pub fn put_lines(text: &mut [u8], outputs: &[u8], n: usize) -> usize
     let mut end: usize = 0;
     let mut j: usize = 0;
     while j < n {
-        end = text::put_line(text, end, bytes::i32_at(outputs, 4 * j));
+        end = text::put_line(text, end, bytes::signed_at::<4>(outputs, 4 * j));
         j += 1;
     }
     end

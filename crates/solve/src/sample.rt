@@ -8,7 +8,6 @@ ghost use Rattle.solve.specs.Sample.{DrivesTested, TopTested, Playable, Sampled,
 
 use crate::{answer, settle};
 use circuit::{advance, board, places};
-use units::number;
 use units::number::Number;
 use units::voltage::Voltage;
 
@@ -103,7 +102,7 @@ pub fn sample(
     }
     let mut found = [0i64; 16];
     let answer = voiced(board, stretches, volts, &mut found, stored);
-    if number::value(answer) == 0 {
+    if u64::from(answer) == 0 {
         hand_over(board, &found, volts);
     }
     answer

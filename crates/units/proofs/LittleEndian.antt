@@ -1,7 +1,7 @@
 -- Laws of `little_endian` and `written`, each once over the number of bytes: two parts make a whole, what was written is read
 -- back, and every other byte stays. Assumes nothing.
 use Rattle.std.proofs.Common.{◌≡◌, ℕ, zero, suc, ◌+◌, ◌-◌, ◌*◌, ◌/◌, ◌%◌, ◌^◌, ◌<◌, ◌≤◌, ◌⊎◌, List, length, get_or, set, ℤ, pos, negsuc, sym, refl, ap, ◌∙◌, inl, inr, ⊎_elim, add-zero, mod-eq_of_lt, mul_assoc, mul_comm, suc-add, mul-le-mul_left, one-mul, zero-add, mul-add, div-one, arith, length-set, get_or-set_other, get_or-set_same, pow-add, to_z-of_z, w64, SFits, to_z, of_z}
-use native.Mathlib.Nat.{pow-succ', pow-zero, mod-one, div-div-eq-div-mul}
+use native.Mathlib.Nat.{pow-succ', pow-zero, pow-le-pow_right, mod-one, div-div-eq-div-mul}
 use lib.Arith.{mod-mul}
 use lib.Pow.{not_mod}
 use mir.Syntax.{Width}
@@ -36,6 +36,46 @@ spells_both a b s at r q h k = record {
   value = rw (split a b s at, h.value, k.value);
   small = rw (pow-add 256 a b) (omega (arith, h.small, mul-le-mul_left (256 ^ a) k.small, mul-add (256 ^ a) q 1));
 }
+
+-- of n bytes those from place i on, and the byte before them
+pub spells_more : (n i : ℕ) (s : List ℕ) (at r : ℕ) → 0 < i → i ≤ n → get_or s (at + (i - 1)) 0 < 256 → Spells (n - i) s (at + i) r → Spells (n - (i - 1)) s (at + (i - 1)) (256 * r + get_or s (at + (i - 1)) 0)
+unfolding little_endian
+spells_more n i s at r some most byte h = rw left record {
+  value = rw (h.value, above) (omega arith);
+  small = rw (pow-succ' 256 (n - i)) (omega (arith, h.small, byte));
+}
+  where
+    left : n - (i - 1) ≡ suc (n - i)
+    left = omega arith
+
+    above : at + i ≡ at + (i - 1) + 1
+    above = omega arith
+
+-- what up to eight bytes hold is a number of 64 bits
+pub spells_fits : {n : ℕ} {s : List ℕ} {at r : ℕ} → n ≤ 8 → Spells n s at r → r < 2 ^ 64
+spells_fits few h = omega (arith, h.small, pow-le-pow_right {n = 256} (omega arith) few)
+
+-- half of how many numbers n bytes can hold: its double is all of them ..
+pub half_twice : (n : ℕ) → 1 ≤ n → 256 ^ n / 2 + 256 ^ n / 2 ≡ 256 ^ n
+half_twice zero some = absurd (omega arith)
+half_twice (suc n) some = rw (pow-succ' 256 n) (omega arith)
+
+-- .. and it is what the code makes by a shift
+pub half_shifted : (n : ℕ) → 1 ≤ n → n ≤ 8 → 1 * 2 ^ (8 * n - 1) % 2 ^ 64 ≡ 256 ^ n / 2
+half_shifted zero some few = absurd (omega arith)
+half_shifted (suc n) some few =
+    let k : n ≤ 7 = omega arith in
+    rw (one-mul, eight n, pow-add 2 (8 * n) 7, power_of_two n, pow-succ' 256 n) (omega (arith, pow-le-pow_right {n = 256} (omega arith) k))
+  where
+    eight : (n : ℕ) → 8 * suc n - 1 ≡ 8 * n + 7
+    eight n = omega arith
+
+    more : (n : ℕ) → 8 * suc n ≡ 8 + 8 * n
+    more n = omega arith
+
+    power_of_two : (n : ℕ) → 2 ^ (8 * n) ≡ 256 ^ n
+    power_of_two zero = refl
+    power_of_two (suc n) = rw (more n, pow-add 2 8 (8 * n), power_of_two n, pow-succ' 256 n)
 
 -- the lower a bytes of v, and the b above them, written one after the other
 pub written_both : (a b : ℕ) (s : List ℕ) (at v : ℕ) → written (a + b) s at v ≡ written b (written a s at v) (at + a) (v / 256 ^ a)

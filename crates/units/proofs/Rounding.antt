@@ -1,6 +1,6 @@
 -- From a float to the nearest voltage: what `nearest_size` asks and gives, what the tests of `from_f64` say, and that every voltage in
 -- range comes back. Assumes nothing.
-use Rattle.std.proofs.Common.{◌≡◌, ℕ, suc, ◌+◌, ◌-◌, ◌*◌, ◌/◌, ◌^◌, ◌<◌, ◌≤◌, min, Bool, true, false, ◌&&◌, T, ℤ, pos, negsuc, neg_ℤ, refl, ap, true≢false, mul_assoc, mul_comm, div-lt_iff_lt-mul, lt_of_mul-lt-mul_right, mul-lt-mul_of_pos_right, mul-pos, le-div_iff_mul-le, mul_left_comm, arith, lt→ltb, ltb-false, ltb-true, eq-eqb, eqb-true, le-leb}
+use Rattle.std.proofs.Common.{Some, None, ◌≡◌, ℕ, suc, ◌+◌, ◌-◌, ◌*◌, ◌/◌, ◌^◌, ◌<◌, ◌≤◌, min, Bool, true, false, ◌&&◌, T, ℤ, pos, negsuc, neg_ℤ, refl, ap, true≢false, mul_assoc, mul_comm, div-lt_iff_lt-mul, lt_of_mul-lt-mul_right, mul-lt-mul_of_pos_right, mul-pos, le-div_iff_mul-le, mul_left_comm, arith, lt→ltb, ltb-false, ltb-true, eq-eqb, eqb-true, le-leb}
 use mathlib.Core.Bool.{false≢true}
 use native.Mathlib.Nat.{div-eq_of_lt}
 use borrow.Author.Tests.{lt-leb}
@@ -11,7 +11,6 @@ use lib.Ieee.Fits.{down_pos}
 use Rattle.units.specs.Voltage.{voltage_limit, InRange}
 use Rattle.units.specs.Ratio.{nearest_ratio}
 use Rattle.units.specs.Float.{Exactly, signed, rounded, nearest_voltage, Positive, nearest_size}
-use Rattle.units.specs.declared.voltage.Nearest.TheVariants.{At, Nothing}
 use Rattle.units.proofs.RatioLaws.{nearest_says}
 use Rattle.units.proofs.Sizes.{abs_neg}
 use Rattle.units.proofs.Doubling.{twice_exact, halved}
@@ -105,24 +104,24 @@ below_zero (fin true m e) h = refl
 below_zero (fin false m e) h = absurd (true≢false h.0)
 
 -- 2 ^ 62 or more in size is out of range
-far : (s : Bool) (m : ℕ) (e : ℤ) → 2 ^ 62 * down e ≤ m * up e → Nothing ≡ rounded (signed s (nearest_ratio (m * up e) (down e)))
+far : (s : Bool) (m : ℕ) (e : ℤ) → 2 ^ 62 * down e ≤ m * up e → None ≡ rounded (signed s (nearest_ratio (m * up e) (down e)))
 far s m e h =
     let d = down_pos e in
     let l : 2 ^ 62 ≤ nearest_ratio (m * up e) (down e) = (le-div_iff_mul-le {k = down e * 2} (omega arith)).1 (omega arith) in
     out s (nearest_ratio (m * up e) (down e)) (omega arith)
   where
-    out : (s : Bool) (n : ℕ) → voltage_limit < n → Nothing ≡ rounded (signed s n)
+    out : (s : Bool) (n : ℕ) → voltage_limit < n → None ≡ rounded (signed s n)
     out true n h = rw (abs_neg (pos n), lt-leb n voltage_limit h)
     out false n h = rw (lt-leb n voltage_limit h)
 
-pub too_high : (x : Float) → lt zero_f x ≡ true → lt x far_f ≡ false → Nothing ≡ nearest_voltage x
+pub too_high : (x : Float) → lt zero_f x ≡ true → lt x far_f ≡ false → None ≡ nearest_voltage x
 unfolding lt nearest_voltage
 too_high nan p q = refl
 too_high (inf s) p q = refl
 too_high (fin true m e) p q = absurd (false≢true p)
 too_high (fin false m e) p q = far false m e (omega (arith, ltb-false (m * up e * 1) (1 * 2 ^ 62 * down e) q))
 
-pub too_low : (x : Float) → lt x zero_f ≡ true → lt (neg x) far_f ≡ false → Nothing ≡ nearest_voltage x
+pub too_low : (x : Float) → lt x zero_f ≡ true → lt (neg x) far_f ≡ false → None ≡ nearest_voltage x
 unfolding lt nearest_voltage neg
 too_low nan p q = refl
 too_low (inf s) p q = refl
@@ -146,7 +145,7 @@ at_zero (fin s m e) p = zero_of s (near_zero m e (omega (arith, eqb-true (m * up
     zero_of true h = rw h
     zero_of false h = rw h
 
-pub not_a_number : (x : Float) → lt zero_f x ≡ false → lt x zero_f ≡ false → eq x zero_f ≡ false → Nothing ≡ nearest_voltage x
+pub not_a_number : (x : Float) → lt zero_f x ≡ false → lt x zero_f ≡ false → eq x zero_f ≡ false → None ≡ nearest_voltage x
 unfolding lt eq nearest_voltage
 not_a_number nan p q r = refl
 not_a_number (inf s) p q r = refl
@@ -166,18 +165,18 @@ exactly (pos n) h = round_whole binary64 false n (omega arith)
 exactly (negsuc n) h = round_whole binary64 true (suc n) (omega arith)
 
 -- what is exactly a voltage in range rounds to that voltage
-back : (x : Float) (s : Bool) (n : ℕ) → n ≤ voltage_limit → HasValue x s n 1 → nearest_voltage x ≡ At (record { microvolts = signed s n })
+back : (x : Float) (s : Bool) (n : ℕ) → n ≤ voltage_limit → HasValue x s n 1 → nearest_voltage x ≡ Some (record { microvolts = signed s n })
 unfolding nearest_voltage
 back nan s n b h = absurd h
 back (inf t) s n b h = absurd h
 back (fin t m e) s n b h =
     rw (h.0, (nearest_says (m * up e) (down e) n (down_pos e)).1 (record { near = omega (arith, h.1); upper = λ half. omega (arith, h.1) })) (kept s)
   where
-    kept : (s : Bool) → rounded (signed s n) ≡ At (record { microvolts = signed s n })
+    kept : (s : Bool) → rounded (signed s n) ≡ Some (record { microvolts = signed s n })
     kept true = rw (abs_neg (pos n), le-leb n voltage_limit b)
     kept false = rw (le-leb n voltage_limit b)
 
 -- every whole microvolt from -33,554,432 to 33,554,432 goes to f64 and back unchanged
-pub there_and_back : (z : ℤ) → InRange z → nearest_voltage (of_int binary64 z) ≡ At (record { microvolts = z })
+pub there_and_back : (z : ℤ) → InRange z → nearest_voltage (of_int binary64 z) ≡ Some (record { microvolts = z })
 there_and_back (pos n) h = back (of_int binary64 (pos n)) false n h (exactly (pos n) h)
 there_and_back (negsuc n) h = back (of_int binary64 (negsuc n)) true (suc n) h (exactly (negsuc n) h)

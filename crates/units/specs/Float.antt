@@ -1,13 +1,12 @@
 -- A voltage and an f64. A finite float is `fin negative m e`, exactly m * 2 ^ e in size; `up e` and `down e` are that power's
 -- numerator and denominator. Assumes nothing.
-use Rattle.std.specs.Prelude.{◌≡◌, ℕ, suc, ◌*◌, ◌^◌, ◌<◌, Bool, true, false, cond, ℤ, pos, negsuc, neg_ℤ, Float}
+use Rattle.std.specs.Prelude.{◌≡◌, ℕ, suc, ◌*◌, ◌^◌, ◌<◌, Bool, true, false, cond, ℤ, pos, negsuc, neg_ℤ, Float, Option, Some, None}
 use Rattle.std.specs.Float.{nan, inf, fin, binary64}
 use Rattle.std.specs.Float.Ieee.{up, down, of_int}
 use Rattle.std.specs.Float.Ieee.Exact.{HasValue}
 use Rattle.units.specs.Ratio.{nearest_ratio}
 use Rattle.units.specs.Voltage.{within, voltage_limit, InRange}
-use Rattle.units.specs.declared.voltage.Nearest.{Nearest}
-use Rattle.units.specs.declared.voltage.Nearest.TheVariants.{At, Nothing}
+use Rattle.units.specs.declared.voltage.Voltage.{Voltage}
 
 -- x is exactly the whole number z
 abbrev pub Exactly : Float → ℤ → Type 0
@@ -24,13 +23,13 @@ signed true n = neg_ℤ (pos n)
 signed false n = pos n
 
 -- a whole number as a voltage, where it is in range
-abbrev pub rounded : ℤ → Nearest
-rounded z = cond (within voltage_limit z) (At (record { microvolts = z })) Nothing
+abbrev pub rounded : ℤ → Option Voltage
+rounded z = cond (within voltage_limit z) (Some (record { microvolts = z })) None
 
 -- the nearest voltage, halves away from zero; none for a NaN, an infinity or a result out of range
-unfoldable pub nearest_voltage : Float → Nearest
-nearest_voltage nan = Nothing
-nearest_voltage (inf s) = Nothing
+unfoldable pub nearest_voltage : Float → Option Voltage
+nearest_voltage nan = None
+nearest_voltage (inf s) = None
 nearest_voltage (fin s m e) = rounded (signed s (nearest_ratio (m * up e) (down e)))
 
 -- ---- what the code's one step asks and gives

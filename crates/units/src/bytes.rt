@@ -1,37 +1,21 @@
-// Numbers in the bytes of a slice, the lowest byte first. Wider numbers are read and written by
-// halves, so that each width cites one law of `little_endian` and `written`.
-ghost use Rattle.std.specs.Prelude.{◌≡◌, ℕ, ◌+◌, ◌*◌, ◌^◌, ◌<◌, ◌≤◌, length, ℤ};
-ghost use Rattle.std.specs.Int.{w32, w64};
-ghost use Rattle.std.proofs.Common.{to_z, of_z};
+// Numbers in the bytes of a slice, the lowest byte first, over how many bytes a number has.
+ghost use Rattle.std.specs.Prelude.{◌≡◌, ℕ, ◌+◌, ◌*◌, ◌/◌, ◌^◌, ◌<◌, ◌≤◌, length, ℤ};
+ghost use Rattle.std.specs.Int.{w64};
+ghost use Rattle.std.proofs.Common.{of_z};
 ghost use Rattle.units.specs.Bytes.{Spells, little_endian, written, twos_complement};
 
 use super::signed;
 
-fn wide(x: u8) -> u64
-    ensures { (result ≡ x) × (result < 256) }
+// What the N bytes from `at` on hold, the highest first to be read.
+pub fn unsigned_at<const N: usize>(s: &[u8], at: usize) -> u64
+    requires { (N ≤ 8) × (at + N ≤ length s.now) }
+    ensures { Spells N s.now at result }
 {
-    x as u64
-}
-
-pub fn u16_at(s: &[u8], at: usize) -> u64
-    requires { at + 2 ≤ length s.now }
-    ensures { Spells 2 s.now at result }
-{
-    wide(s[at]) + 256 * wide(s[at + 1])
-}
-
-pub fn u32_at(s: &[u8], at: usize) -> u64
-    requires { at + 4 ≤ length s.now }
-    ensures { Spells 4 s.now at result }
-{
-    u16_at(s, at) + 65536 * u16_at(s, at + 2)
-}
-
-pub fn u64_at(s: &[u8], at: usize) -> u64
-    requires { at + 8 ≤ length s.now }
-    ensures { Spells 8 s.now at result }
-{
-    u32_at(s, at) + 4294967296 * u32_at(s, at + 4)
+    let mut n = 0;
+    for i in (0..N).rev() {
+        n = 256 * n + s[at + i] as u64;
+    }
+    n
 }
 
 // What the bits n say as a number with a sign: patterns from `half` on stand for the negative ones.
@@ -58,55 +42,29 @@ fn to_bits(z: i64) -> u64
     }
 }
 
-pub fn i32_at(s: &[u8], at: usize) -> i64
-    requires { at + 4 ≤ length s.now }
-    ensures { result ≡ to_z w32 (little_endian 4 s.now at) }
+// What the N bytes from `at` on hold as a number with a sign.
+pub fn signed_at<const N: usize>(s: &[u8], at: usize) -> i64
+    requires { (1 ≤ N) × (N ≤ 8) × (at + N ≤ length s.now) }
+    ensures { result ≡ twos_complement (256 ^ N / 2) (little_endian N s.now at) }
 {
-    from_bits(u32_at(s, at), 2147483648)
+    from_bits(unsigned_at::<N>(s, at), 1 << (8 * N - 1))
 }
 
-pub fn i64_at(s: &[u8], at: usize) -> i64
-    requires { at + 8 ≤ length s.now }
-    ensures { result ≡ to_z w64 (little_endian 8 s.now at) }
+// The writers store the N lowest bytes of any number, and leave every other byte alone.
+pub fn put_unsigned<const N: usize>(s: &mut [u8], at: usize, v: u64)
+    requires { at + N ≤ length s.old }
+    ensures { s.new ≡ written N s.old at v }
 {
-    from_bits(u64_at(s, at), 9223372036854775808)
+    let mut left = v;
+    for i in 0..N {
+        s[at + i] = (left % 256) as u8;
+        left /= 256;
+    }
 }
 
-// The writers store the lowest bytes of any number, and leave every other byte alone.
-pub fn put_u16(s: &mut [u8], at: usize, v: u64)
-    requires { at + 2 ≤ length s.old }
-    ensures { s.new ≡ written 2 s.old at v }
+pub fn put_signed<const N: usize>(s: &mut [u8], at: usize, z: i64)
+    requires { at + N ≤ length s.old }
+    ensures { s.new ≡ written N s.old at (of_z w64 z) }
 {
-    s[at] = (v % 256) as u8;
-    s[at + 1] = (v / 256 % 256) as u8;
-}
-
-pub fn put_u32(s: &mut [u8], at: usize, v: u64)
-    requires { at + 4 ≤ length s.old }
-    ensures { s.new ≡ written 4 s.old at v }
-{
-    put_u16(s, at, v);
-    put_u16(s, at + 2, v / 65536);
-}
-
-pub fn put_u64(s: &mut [u8], at: usize, v: u64)
-    requires { at + 8 ≤ length s.old }
-    ensures { s.new ≡ written 8 s.old at v }
-{
-    put_u32(s, at, v);
-    put_u32(s, at + 4, v / 4294967296);
-}
-
-pub fn put_i32(s: &mut [u8], at: usize, z: i64)
-    requires { at + 4 ≤ length s.old }
-    ensures { s.new ≡ written 4 s.old at (of_z w64 z) }
-{
-    put_u32(s, at, to_bits(z));
-}
-
-pub fn put_i64(s: &mut [u8], at: usize, z: i64)
-    requires { at + 8 ≤ length s.old }
-    ensures { s.new ≡ written 8 s.old at (of_z w64 z) }
-{
-    put_u64(s, at, to_bits(z));
+    put_unsigned::<N>(s, at, to_bits(z));
 }

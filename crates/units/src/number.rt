@@ -3,7 +3,7 @@
 ghost use Rattle.std.specs.Prelude.{◌≡◌};
 ghost use Rattle.units.specs.Number.{number_of};
 
-#[derive(Clone, Copy)]
+#[derive(Clone, Copy, PartialEq, Eq, Debug)]
 pub enum Number {
     Done,
     Length,
@@ -19,22 +19,23 @@ pub enum Number {
     Stored,
 }
 
-// The number itself.
-pub fn value(number: Number) -> u64
-    ensures { result ≡ number_of number }
-{
-    match number {
-        Number::Done => 0,
-        Number::Length => 1,
-        Number::Trailer => 2,
-        Number::Sizes => 3,
-        Number::Curve => 4,
-        Number::Element => 5,
-        Number::Conductance => 6,
-        Number::State => 7,
-        Number::Lengths => 8,
-        Number::Drive => 9,
-        Number::Rail => 10,
-        Number::Stored => 11,
+impl From<Number> for u64 {
+    ghost from_gives = { λ number n. n ≡ number_of number };
+
+    fn from(number: Number) -> u64 {
+        match number {
+            Number::Done => 0,
+            Number::Length => 1,
+            Number::Trailer => 2,
+            Number::Sizes => 3,
+            Number::Curve => 4,
+            Number::Element => 5,
+            Number::Conductance => 6,
+            Number::State => 7,
+            Number::Lengths => 8,
+            Number::Drive => 9,
+            Number::Rail => 10,
+            Number::Stored => 11,
+        }
     }
 }

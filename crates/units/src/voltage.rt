@@ -11,13 +11,6 @@ pub struct Voltage {
     pub microvolts: i64,
 }
 
-// What an f64 is as a voltage: the nearest one, or none.
-#[derive(Clone, Copy)]
-pub enum Nearest {
-    At(Voltage),
-    Nothing,
-}
-
 // The test that both limits share: whether z lies from -limit to limit.
 fn within(z: i64, limit: i64) -> bool
     ensures { result ≡ within (unsigned_abs limit) z }
@@ -26,14 +19,11 @@ fn within(z: i64, limit: i64) -> bool
 }
 
 // A number of microvolts as a voltage, where it is in range.
-fn ranged(z: i64) -> Nearest
+fn ranged(z: i64) -> Option<Voltage>
     ensures { result ≡ rounded z }
 {
     let v = Voltage { microvolts: z };
-    if v.in_range() {
-        return Nearest::At(v);
-    }
-    Nearest::Nothing
+    v.in_range().then_some(v)
 }
 
 // An f64 above zero to the nearest whole number, halves upward. Twice a float is a float, so that
@@ -104,25 +94,25 @@ impl Voltage {
 
     // The nearest voltage, halves away from zero; none for a NaN, an infinity or a result out of
     // range. What is 2^62 or more in size is out of range by far, and is not converted at all.
-    pub fn from_f64(x: f64) -> Nearest
+    pub fn from_f64(x: f64) -> Option<Voltage>
         ensures { result ≡ nearest_voltage x }
     {
         if 0.0 < x {
             if x < 4611686018427387904.0 {
                 return ranged(nearest_size(x));
             }
-            return Nearest::Nothing;
+            return None;
         }
         if x < 0.0 {
             let y = -x;
             if y < 4611686018427387904.0 {
                 return ranged(signed::minus(0, nearest_size(y)));
             }
-            return Nearest::Nothing;
+            return None;
         }
         if x == 0.0 {
             return ranged(0);
         }
-        Nearest::Nothing
+        None
     }
 }

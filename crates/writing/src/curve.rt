@@ -16,7 +16,7 @@ fn put_slopes(buffer: &mut [u8], at: usize, slopes: [u32; 17], n: usize)
 {
     let mut j: usize = 0;
     while j < n {
-        bytes::put_u32(buffer, at + 4 * j, slopes[j] as u64);
+        bytes::put_unsigned::<4>(buffer, at + 4 * j, slopes[j] as u64);
         j += 1;
     }
 }
@@ -28,7 +28,7 @@ fn put_breakpoints(buffer: &mut [u8], at: usize, breakpoints: [i32; 16], n: usiz
 {
     let mut j: usize = 0;
     while j < n {
-        bytes::put_i32(buffer, at + 4 * j, breakpoints[j] as i64);
+        bytes::put_signed::<4>(buffer, at + 4 * j, breakpoints[j] as i64);
         j += 1;
     }
 }

@@ -16,7 +16,7 @@ fn put_element(buffer: &mut [u8], at: usize, e: Element)
     buffer[at + 1] = e.p;
     buffer[at + 2] = e.q;
     buffer[at + 3] = e.curve;
-    bytes::put_u32(buffer, at + 4, e.value as u64);
+    bytes::put_unsigned::<4>(buffer, at + 4, e.value as u64);
 }
 
 // All of them, from the first byte on.

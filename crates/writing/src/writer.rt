@@ -5,7 +5,6 @@ ghost use Rattle.writing.specs.Writes.{Writes};
 
 use super::{curve, element, trailer};
 use image::Parts;
-use units::number;
 
 // Document 02's number, and the image's length; 0 beside a refusal.
 #[derive(Clone, Copy)]
@@ -27,7 +26,7 @@ fn refused(number: u64) -> Written
 fn write_parts(parts: Parts, buffer: &mut [u8]) -> Written
     ensures { Writes parts buffer.old result buffer.new }
 {
-    let broken = number::value(image::judge(parts));
+    let broken = u64::from(image::judge(parts));
     if broken != 0 {
         return refused(broken);
     }

@@ -16,22 +16,22 @@ loop-j-init c =
 
 -- the number of a sample that was refused, and of one that was not
 some : (c : goal.Then-number-ne0) → number_of c.next.result ≡ 0 → ⊥
-some c e = c.if-number-ne0.true (c.value-number.ensures ∙ e)
+some c e = c.if-number-ne0.true (c.from-number.ensures ∙ e)
 
 pub returns-then-number-ne0 : goal.returns-then-number-ne0
 returns-then-number-ne0 c =
     let q = refused_is c.next.ensures.0 (some c) in
-    rw c.value-number.ensures (run_short c.loop-j.invariant.1 c.loop-j-test.true q)
+    rw c.from-number.ensures (run_short c.loop-j.invariant.1 c.loop-j-test.true q)
 
 pub loop-j-preserved : goal.loop-j-preserved
 loop-j-preserved c =
-    let none : number_of c.next.result ≡ 0 = sym c.value-number.ensures ∙ c.if-number-ne0.false in
+    let none : number_of c.next.result ≡ 0 = sym c.from-number.ensures ∙ c.if-number-ne0.false in
     let l = c.loop-j in
     let v = c.next.new.volts in
     let z = reading v c.args.output in
     let f : to_z w64 (of_z w64 z) ≡ z = search rules in
     let q = passed_is c.next.ensures.0 none in
-    (omega (arith, c.loop-j-test.true), rw ((rw f at c.put_i32.ensures)) (run_more l.invariant.1 q), playable_on l.invariant.2 q, c.next.ensures.1)
+    (omega (arith, c.loop-j-test.true), rw ((rw f at c.put_signed.ensures)) (run_more l.invariant.1 q), playable_on l.invariant.2 q, c.next.ensures.1)
 
 pub returns : goal.returns
 returns c =

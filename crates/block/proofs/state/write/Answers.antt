@@ -15,4 +15,4 @@ loop-j-preserved c =
     let l = c.loop-j in
     let z = reading c.args.x.now l.j in
     let e : to_z w64 (of_z w64 z) ≡ z = search rules in
-    (omega (arith, c.loop-j-test.true), (rw (l.invariant.1, e) at c.put_i64.ensures) ∙ write_more c.args.state.now c.args.x.now l.j)
+    (omega (arith, c.loop-j-test.true), (rw (l.invariant.1, e) at c.put_signed.ensures) ∙ write_more c.args.state.now c.args.x.now l.j)

@@ -3,4 +3,4 @@ use Rattle.image.proofs.element.element_at.Goals as goal
 
 pub returns : goal.returns
 unfolding element_at
-returns c = rw c.u32_at.ensures.value
+returns c = rw c.unsigned_at.ensures.value

@@ -4,4 +4,4 @@ use Rattle.image.proofs.trailer.header_at.Goals as goal
 
 pub returns : goal.returns
 unfolding header_at no_parts
-returns c = rw (c.u32_at.ensures.value, c.no_parts-header.ensures)
+returns c = rw (c.unsigned_at.ensures.value, c.no_parts-header.ensures)

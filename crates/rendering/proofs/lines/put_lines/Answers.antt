@@ -12,7 +12,7 @@ loop-j-init c = (search rules, refl, lines_none (output_at c.args.outputs.now))
 pub loop-j-preserved : goal.loop-j-preserved
 loop-j-preserved c =
     let l = c.loop-j in
-    let i = c.i32_at in
+    let i = c.signed_at in
     let p = c.put_line-end in
     let z = i.result in
     let e : to_z w64 (of_z w64 z) ≡ z = search rules in

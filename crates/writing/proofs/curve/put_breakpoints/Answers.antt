@@ -18,5 +18,5 @@ loop-j-preserved c =
     let l = c.loop-j in
     let f = narrow in
     let w : SFits w64 (reading c.args.breakpoints l.j) = sfits_widen tt f in
-    let stored = rw (to_z-of_z f, to_z-of_z w) at c.put_i32.ensures in
+    let stored = rw (to_z-of_z f, to_z-of_z w) at c.put_signed.ensures in
     (search rules, turn_more (breakpoint_bytes c.args.breakpoints) c.args.buffer.now c.args.at l.j l.invariant.1 (stored ∙ written_is 4 _ _ _) (omega (arith, breakpoints_length c.args.breakpoints l.j)) (signed_low (reading c.args.breakpoints l.j) f))

@@ -11,4 +11,4 @@ loop-j-init c = (search rules, turn_none _ _ _)
 pub loop-j-preserved : goal.loop-j-preserved
 loop-j-preserved c =
     let l = c.loop-j in
-    (search rules, turn_more (slope_bytes c.args.slopes) c.args.buffer.now c.args.at l.j l.invariant.1 (c.put_u32.ensures ∙ written_is 4 _ _ _) (omega (arith, slopes_length c.args.slopes l.j)) refl)
+    (search rules, turn_more (slope_bytes c.args.slopes) c.args.buffer.now c.args.at l.j l.invariant.1 (c.put_unsigned.ensures ∙ written_is 4 _ _ _) (omega (arith, slopes_length c.args.slopes l.j)) refl)

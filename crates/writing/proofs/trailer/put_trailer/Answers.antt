@@ -4,4 +4,4 @@ use Rattle.writing.proofs.trailer.put_trailer.Goals as goal
 
 pub returns : goal.returns
 returns c =
-    (rw (c.put_u32.ensures, c.put_u16-2.ensures, c.put_u16.ensures) at c.put_u16-3.ensures) ∙ sym (trailer_laid _ _ _ _ _)
+    (rw (c.put_unsigned-3.ensures, c.put_unsigned-2.ensures, c.put_unsigned.ensures) at c.put_unsigned-4.ensures) ∙ sym (trailer_laid _ _ _ _ _)

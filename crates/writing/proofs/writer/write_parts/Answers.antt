@@ -14,12 +14,12 @@ use Rattle.writing.proofs.writer.write_parts.Goals as goal
 
 pub returns-then-broken-ne0 : goal.returns-then-broken-ne0
 returns-then-broken-ne0 c =
-    let number_is : c.value-broken.result ≡ number_of (judged c.args.parts) = c.value-broken.ensures ∙ ap number_of c.judge.ensures in
+    let number_is : c.from-broken.result ≡ number_of (judged c.args.parts) = c.from-broken.ensures ∙ ap number_of c.judge.ensures in
     writes-broken _ _ _ (λ e. c.if-broken-ne0.true (number_is ∙ e)) (c.refused.ensures.0 ∙ number_is) c.refused.ensures.1
 
 pub curves_length-curves-requires : goal.curves_length-curves-requires
 curves_length-curves-requires c =
-    let number_is : c.value-broken.result ≡ number_of (judged c.args.parts) = c.value-broken.ensures ∙ ap number_of c.judge.ensures in
+    let number_is : c.from-broken.result ≡ number_of (judged c.args.parts) = c.from-broken.ensures ∙ ap number_of c.judge.ensures in
     let held : number_of (judged c.args.parts) ≡ 0 = sym number_is ∙ c.if-broken-ne0.false in
     let sound : Sound c.args.parts = (judged_sound _ (done_only _ held)).0 in
     curves_few _ sound
@@ -29,21 +29,21 @@ returns-then-buffer-before c = writes_short _ _ _ (cc) (omega arith) c.refused-t
 
 pub put_elements-requires : goal.put_elements-requires
 put_elements-requires c =
-    let number_is : c.value-broken.result ≡ number_of (judged c.args.parts) = c.value-broken.ensures ∙ ap number_of c.judge.ensures in
+    let number_is : c.from-broken.result ≡ number_of (judged c.args.parts) = c.from-broken.ensures ∙ ap number_of c.judge.ensures in
     let held : number_of (judged c.args.parts) ≡ 0 = sym number_is ∙ c.if-broken-ne0.false in
     let sound : Sound c.args.parts = (judged_sound _ (done_only _ held)).0 in
     (sound.few_elements, omega arith)
 
 pub put_curves-requires : goal.put_curves-requires
 put_curves-requires c =
-    let number_is : c.value-broken.result ≡ number_of (judged c.args.parts) = c.value-broken.ensures ∙ ap number_of c.judge.ensures in
+    let number_is : c.from-broken.result ≡ number_of (judged c.args.parts) = c.from-broken.ensures ∙ ap number_of c.judge.ensures in
     let held : number_of (judged c.args.parts) ≡ 0 = sym number_is ∙ c.if-broken-ne0.false in
     let sound : Sound c.args.parts = (judged_sound _ (done_only _ held)).0 in
     (curves_few _ sound, omega arith)
 
 pub returns : goal.returns
 returns c =
-    let number_is : c.value-broken.result ≡ number_of (judged c.args.parts) = c.value-broken.ensures ∙ ap number_of c.judge.ensures in
+    let number_is : c.from-broken.result ≡ number_of (judged c.args.parts) = c.from-broken.ensures ∙ ap number_of c.judge.ensures in
     let held : number_of (judged c.args.parts) ≡ 0 = sym number_is ∙ c.if-broken-ne0.false in
     let whole = image_length c.args.parts in
     let counted = c.curves_length-curves.ensures.0 in
