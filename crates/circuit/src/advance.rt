@@ -7,7 +7,7 @@ ghost use Rattle.circuit.specs.Board.{count_on, Laid, Ranged, Evaluable};
 ghost use Rattle.circuit.specs.Advance.{Twice, next_on, Advancing};
 
 use crate::Circuit;
-use network::kind;
+use network::kind::Kind;
 use units::signed;
 // The limit of a stored current, in femtoamperes.
 pub const LIMIT: u64 = 144115188075855872;
@@ -38,14 +38,13 @@ impl Circuit {
         requires { Laid self.now.board self.now.stretches × Ranged self.now.board volts.now × (j < count_on self.now.board) × Within stored_limit x }
         ensures { result ≡ next_on self.now.board self.now.stretches volts.now j x }
     {
-        let kind = self.kind(j);
-        if kind == kind::CAPACITOR {
-            return signed::minus(self.twice(volts, j), x);
+        match Kind::of(self.kind(j)) {
+            Some(Kind::Capacitor) => signed::minus(self.twice(volts, j), x),
+            Some(Kind::Inductor) => signed::minus(x, self.twice(volts, j)),
+            Some(Kind::Resistor) => 0,
+            Some(Kind::Diode) => 0,
+            None => 0,
         }
-        if kind == kind::INDUCTOR {
-            return signed::minus(x, self.twice(volts, j));
-        }
-        0
     }
 
     // All stored currents after a sample with these voltages, if every one is within its limit. Each is stored

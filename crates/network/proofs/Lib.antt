@@ -1,3 +1,4 @@
+pub mod KindLaws
 pub mod Nodes
 pub mod Curves
 pub mod Companions
