@@ -5,5 +5,5 @@
 mod numbers;
 mod table;
 
-pub use numbers::board;
+pub use numbers::circuit;
 pub use table::stretches;

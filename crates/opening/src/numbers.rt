@@ -1,13 +1,14 @@
 // The board: a circuit's numbers, and what is computed from them: the index and the steepest sums.
-ghost use Rattle.std.specs.Prelude.{◌≡◌, true, [], ◌∷◌, ◌+◌, ◌≤◌};
-ghost use Rattle.units.specs.Table.{overlaid};
+ghost use Rattle.std.specs.Prelude.{◌≡◌, true, [], ◌∷◌, ◌+◌, ◌*◌, ◌≤◌, ◌<◌};
+ghost use Rattle.units.specs.Table.{overlaid, padded};
 ghost use Rattle.image.specs.Conductance.{conductances_fit};
 ghost use Rattle.image.specs.Setting.{plain};
 ghost use Rattle.image.specs.Sound.{Sound};
 ghost use Rattle.circuit.specs.Board.{board_size};
-ghost use Rattle.opening.specs.Opening.{laid_of, board_of, stretches_of};
+ghost use Rattle.opening.specs.Opening.{laid_number, laid_of, board_of, stretches_of};
 
-use circuit::{index, node};
+use super::table;
+use circuit::Circuit;
 use image::{Element, Parts};
 use network::kind;
 
@@ -25,46 +26,53 @@ fn put(board: &mut [u64; 293], at: usize, e: Element, g: u64, first: u64, m: u64
     board[at + 5] = m;
 }
 
+// Element j on a board that has what comes before it.
+fn lay(board: &mut [u64; 293], parts: &Parts, j: usize)
+    requires { Sound parts.now × (j < parts.now.element_count) × (board.old ≡ padded 0 board_size (laid_number parts.now plain) (101 + 6 * j)) }
+    ensures { board.new ≡ padded 0 board_size (laid_number parts.now plain) (101 + 6 * (j + 1)) }
+{
+    let e = parts.elements[j];
+    let at = 101 + 6 * j;
+    let g = image::conductance(e.kind, e.value, parts.rate);
+    if kind::has_curve(e.kind as u64) {
+        let k = e.curve as usize;
+        let c = parts.curves[k];
+        put(board, at, e, g, 17 * (k as u64), c.count as u64);
+    } else {
+        put(board, at, e, g, 0, 0);
+    }
+}
+
 // The leak, the counts and the elements; nothing that is computed from them yet.
 fn laid(parts: Parts) -> [u64; 293]
     requires { Sound parts }
     ensures { result ≡ laid_of parts plain }
 {
-    let count = parts.element_count as usize;
     let mut board = [0u64; 293];
     board[0] = image::leak(parts.version);
     board[1] = parts.nodes as u64;
     board[2] = parts.driven as u64;
     board[3] = parts.element_count as u64;
-    let mut j: usize = 0;
-    while j < count {
-        let e = parts.elements[j];
-        let at = 101 + 6 * j;
-        j += 1;
-        let g = image::conductance(e.kind, e.value, parts.rate);
-        if kind::has_curve(e.kind as u64) {
-            let k = e.curve as usize;
-            let c = parts.curves[k];
-            put(&mut board, at, e, g, 17 * (k as u64), c.count as u64);
-        } else {
-            put(&mut board, at, e, g, 0, 0);
-        }
+    for j in 0..parts.element_count as usize {
+        lay(&mut board, &parts, j);
     }
     board
 }
 
-// The board of a circuit whose conductances are within their limits, from its stretches.
-pub fn board(parts: Parts, stretches: &[i64; 408]) -> [u64; 293]
-    requires { Sound parts × (conductances_fit parts plain ≡ true) × (stretches.now ≡ stretches_of parts) }
-    ensures { result ≡ board_of parts plain }
+// The circuit of parts whose conductances are within their limits.
+pub fn circuit(parts: Parts) -> Circuit
+    requires { Sound parts × (conductances_fit parts plain ≡ true) }
+    ensures board { result.board ≡ board_of parts plain }
+    ensures stretches { result.stretches ≡ stretches_of parts }
 {
-    let mut board = laid(parts);
-    index::fill(&mut board, stretches);
-    let mut i: usize = 0;
-    while i < 16 {
-        let sum = node::steepest(&board, stretches, i);
-        board[4 + i] = sum;
-        i += 1;
+    let mut stretches = [0i64; 408];
+    table::stretches(parts, &mut stretches);
+    let board = laid(parts);
+    let mut circuit = Circuit { board, stretches };
+    circuit.fill_index();
+    for i in 0..16 {
+        let sum = circuit.steepest(i);
+        circuit.board[4 + i] = sum;
     }
-    board
+    circuit
 }

@@ -21,12 +21,10 @@ pub fn stretches(parts: Parts, table: &mut [i64; 408])
 {
     let given = parts.curves;
     let curves = known(given);
-    let mut k: usize = 0;
-    while k < parts.curve_count as usize {
+    for k in 0..parts.curve_count as usize {
         let c = curves[k];
         let slopes = c.slopes;
         let breakpoints = c.breakpoints;
         drawing::fill(&slopes, &breakpoints, c.count as usize, 17 * k, table);
-        k += 1;
     }
 }

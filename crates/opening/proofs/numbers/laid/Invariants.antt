@@ -1,5 +1,5 @@
 use mathlib.Core.Path.{◌≡◌}
-use Prim.Native.Nat.{◌+◌, ◌*◌, ◌-◌, ◌≤◌}
+use Prim.Native.Nat.{◌+◌, ◌*◌}
 use Rattle.units.specs.Table.{padded}
 use Rattle.image.specs.Setting.{plain}
 use Rattle.circuit.specs.Board.{board_size}
@@ -7,7 +7,4 @@ use Rattle.opening.specs.Opening.{laid_number}
 use Rattle.opening.proofs.numbers.laid.Given as goal
 
 abbrev pub invariant-loop-j : goal.invariant-loop-j
-invariant-loop-j l = (l.j ≤ l.parts.element_count) × (l.board ≡ padded 0 board_size (laid_number l.parts plain) (101 + 6 * l.j))
-
-abbrev pub decreases-loop-j : goal.decreases-loop-j
-decreases-loop-j l = l.count - l.j
+invariant-loop-j l = l.board ≡ padded 0 board_size (laid_number l.parts plain) (101 + 6 * l.j)

@@ -1,5 +1,5 @@
 use mathlib.Core.Path.{◌≡◌}
-use Prim.Native.Nat.{◌*◌, ◌-◌, ◌≤◌}
+use Prim.Native.Nat.{◌*◌, ◌≤◌}
 use lib.IntN.{pos}
 use Rattle.units.specs.Table.{padded}
 use Rattle.stretch.specs.Stretch.{stretches_size}
@@ -7,7 +7,4 @@ use Rattle.opening.specs.Opening.{table_number}
 use Rattle.opening.proofs.table.stretches.Given as goal
 
 abbrev pub invariant-loop-k : goal.invariant-loop-k
-invariant-loop-k l = (l.k ≤ l.parts.curve_count) × (l.table ≡ padded (pos 0) stretches_size (table_number l.parts) (51 * l.k))
-
-abbrev pub decreases-loop-k : goal.decreases-loop-k
-decreases-loop-k l = l.parts.curve_count - l.k
+invariant-loop-k l = (l.k ≤ l.fn.parts.curve_count) × (l.table ≡ padded (pos 0) stretches_size (table_number l.fn.parts) (51 * l.k))
