@@ -6,7 +6,7 @@ ghost use Rattle.circuit.specs.Board.{nodes_on, count_on, Ready, Ranged, Kept};
 
 use super::show;
 use super::text::Image;
-use circuit::advance;
+use circuit::{advance, Circuit};
 use image::Parts;
 use std::io;
 use std::io::Stdout;
@@ -22,9 +22,9 @@ pub struct Question {
     pub stored: [i64; 32],
 }
 
-fn all_in_range(board: &[u64; 293], volts: &[i64; 16]) -> bool
-    requires { nodes_on board.now < 16 }
-    ensures { result ≡ true → Ranged board.now volts.now }
+fn all_in_range(circuit: &Circuit, volts: &[i64; 16]) -> bool
+    requires { nodes_on circuit.now.board < 16 }
+    ensures { result ≡ true → Ranged circuit.now.board volts.now }
 {
     for i in 0..16usize {
         let v = Voltage {
@@ -37,9 +37,9 @@ fn all_in_range(board: &[u64; 293], volts: &[i64; 16]) -> bool
     true
 }
 
-fn all_kept(board: &[u64; 293], stored: &[i64; 32]) -> bool
-    requires { count_on board.now ≤ 32 }
-    ensures { result ≡ true → Kept board.now stored.now }
+fn all_kept(circuit: &Circuit, stored: &[i64; 32]) -> bool
+    requires { count_on circuit.now.board ≤ 32 }
+    ensures { result ≡ true → Kept circuit.now.board stored.now }
 {
     for j in 0..32usize {
         if !advance::is_kept(stored[j]) {
@@ -49,21 +49,21 @@ fn all_kept(board: &[u64; 293], stored: &[i64; 32]) -> bool
     true
 }
 
-fn of_board(out: Stdout, board: &[u64; 293], stretches: &[i64; 408], q: Question) -> io::Result<()>
-    requires { Ready board.now stretches.now }
+fn of_board(out: Stdout, circuit: &Circuit, q: Question) -> io::Result<()>
+    requires { Ready circuit.now.board circuit.now.stretches }
 {
     let volts = q.volts;
     let mut stored = q.stored;
     if !q.sample {
-        return show::circuit(out, board, stretches);
+        return show::circuit(out, circuit);
     }
-    if !all_in_range(board, &volts) {
+    if !all_in_range(circuit, &volts) {
         return println!(out; "  a voltage is out of range");
     }
-    if !all_kept(board, &stored) {
+    if !all_kept(circuit, &stored) {
         return println!(out; "  a stored current is beyond its limit");
     }
-    show::sample(out, board, stretches, &volts, &mut stored)
+    show::sample(out, circuit, &volts, &mut stored)
 }
 
 fn refused(out: Stdout) -> io::Result<()> {
@@ -76,10 +76,8 @@ fn of_parts(out: Stdout, parts: Parts, q: Question) -> io::Result<()>
     if !image::conductances_fit(parts) {
         return refused(out);
     }
-    let mut stretches = [0i64; 408];
-    opening::stretches(parts, &mut stretches);
-    let board = opening::board(parts, &stretches);
-    of_board(out, &board, &stretches, q)
+    let circuit = opening::circuit(parts);
+    of_board(out, &circuit, q)
 }
 
 fn of_bytes(out: Stdout, image: &[u8], q: Question) -> io::Result<()> {

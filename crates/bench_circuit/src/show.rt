@@ -3,93 +3,91 @@ ghost use Rattle.std.specs.Prelude.{◌≡◌, length};
 ghost use Rattle.circuit.specs.Board.{Laid, Evaluable};
 ghost use Rattle.circuit.specs.Nets.{Netted};
 
-use circuit::advance::Advanced;
-use circuit::bound::Bound;
-use circuit::{advance, board, bound, branch, nets, node};
+use circuit::Circuit;
+use circuit::advance::Beyond;
 use std::io;
 use std::io::Stdout;
 
 // The least bound for e.
-fn least(out: Stdout, board: &[u64; 293], stretches: &[i64; 408], e: u64) -> io::Result<()>
-    requires { Laid board.now stretches.now }
+fn least(out: Stdout, circuit: &Circuit, e: u64) -> io::Result<()>
+    requires { Laid circuit.now.board circuit.now.stretches }
 {
-    match bound::least(board, stretches, e) {
-        Bound::Least(b) => print!(out; " {b}"),
-        Bound::Nothing => print!(out; " none"),
+    match circuit.least_bound(e) {
+        Some(b) => print!(out; " {b}"),
+        None => print!(out; " none"),
     }
 }
 
 // .. for no e, for one, and for the largest.
-fn bounds(out: Stdout, board: &[u64; 293], stretches: &[i64; 408]) -> io::Result<()>
-    requires { Laid board.now stretches.now }
+fn bounds(out: Stdout, circuit: &Circuit) -> io::Result<()>
+    requires { Laid circuit.now.board circuit.now.stretches }
 {
     print!(out; "  B")?;
-    least(out, board, stretches, 0)?;
-    least(out, board, stretches, 1)?;
-    least(out, board, stretches, 1000000000000)?;
-    least(out, board, stretches, 18446744073709551614)?;
-    least(out, board, stretches, 18446744073709551615)?;
+    least(out, circuit, 0)?;
+    least(out, circuit, 1)?;
+    least(out, circuit, 1000000000000)?;
+    least(out, circuit, 18446744073709551614)?;
+    least(out, circuit, 18446744073709551615)?;
     print!(out; "\n")
 }
 
 // The held conductance of every node, with ground.
-fn held(out: Stdout, board: &[u64; 293], stretches: &[i64; 408]) -> io::Result<()>
-    requires { Laid board.now stretches.now }
+fn held(out: Stdout, circuit: &Circuit) -> io::Result<()>
+    requires { Laid circuit.now.board circuit.now.stretches }
 {
-    let nodes = board::nodes(board);
+    let nodes = circuit.nodes();
     for i in 0..16usize {
         if i <= nodes {
-            print!(out; " {}", node::held(board, stretches, i))?;
+            print!(out; " {}", circuit.held(i))?;
         }
     }
     Ok(())
 }
 
 // The steepest sum of every node, as it stands on the board.
-fn steepest(out: Stdout, board: &[u64; 293]) -> io::Result<()> {
-    let nodes = board::nodes(board);
+fn steepest(out: Stdout, circuit: &Circuit) -> io::Result<()> {
+    let nodes = circuit.nodes();
     for i in 0..16usize {
         if i <= nodes {
-            print!(out; " {}", board::steepest(board, i))?;
+            print!(out; " {}", circuit.steepest_sum(i))?;
         }
     }
     Ok(())
 }
 
 // Held conductance and steepest sum of every node.
-fn nodes(out: Stdout, board: &[u64; 293], stretches: &[i64; 408]) -> io::Result<()>
-    requires { Laid board.now stretches.now }
+fn nodes(out: Stdout, circuit: &Circuit) -> io::Result<()>
+    requires { Laid circuit.now.board circuit.now.stretches }
 {
     print!(out; "  held")?;
-    held(out, board, stretches)?;
+    held(out, circuit)?;
     print!(out; " steepest")?;
-    steepest(out, board)?;
+    steepest(out, circuit)?;
     print!(out; "\n")
 }
 
 // What a circuit is by itself.
-pub fn circuit(out: Stdout, board: &[u64; 293], stretches: &[i64; 408]) -> io::Result<()>
-    requires { Laid board.now stretches.now }
+pub fn circuit(out: Stdout, circuit: &Circuit) -> io::Result<()>
+    requires { Laid circuit.now.board circuit.now.stretches }
 {
-    nodes(out, board, stretches)?;
-    bounds(out, board, stretches)
+    nodes(out, circuit)?;
+    bounds(out, circuit)
 }
 
 // The current of every element.
 fn flows(
     out: Stdout,
-    board: &[u64; 293],
-    stretches: &[i64; 408],
+    circuit: &Circuit,
     stored: &[i64; 32],
     volts: &[i64; 16],
 ) -> io::Result<()>
-    requires { Evaluable board.now stretches.now stored.now volts.now }
+    requires { Evaluable circuit.now.board circuit.now.stretches stored.now volts.now }
 {
-    let count = board::count(board);
+    let count = circuit.count();
     print!(out; "  flow")?;
     for j in 0..32usize {
         if j < count {
-            print!(out; " {}", branch::flow(board, stretches, stored, volts, j))?;
+            print!(out; " {}", circuit.flow(stored, volts, j))?;
         }
     }
     Ok(())
@@ -98,20 +96,19 @@ fn flows(
 // The net current of every node, with ground.
 fn nets(
     out: Stdout,
-    board: &[u64; 293],
-    stretches: &[i64; 408],
+    circuit: &Circuit,
     stored: &[i64; 32],
     volts: &[i64; 16],
 ) -> io::Result<()>
-    requires { Evaluable board.now stretches.now stored.now volts.now }
+    requires { Evaluable circuit.now.board circuit.now.stretches stored.now volts.now }
 {
-    let nodes = board::nodes(board);
+    let nodes = circuit.nodes();
     print!(out; " net")?;
     for i in 0..16usize {
         if i <= nodes {
             print!(out;
                 " {}",
-                node::net_current(board, stretches, stored, volts, i)
+                circuit.net_current(stored, volts, i)
             )?;
         }
     }
@@ -120,37 +117,33 @@ fn nets(
 
 // Every node is moved from zero volts to its voltage, one after the other.
 fn move_all(
-    board: &[u64; 293],
-    stretches: &[i64; 408],
+    circuit: &Circuit,
     stored: &[i64; 32],
     volts: &[i64; 16],
     at: &mut [i64; 16],
     nets: &mut [i64; 16],
 )
-    requires { Evaluable board.now stretches.now stored.now volts.now × Evaluable board.now stretches.now stored.now at.old × (length at.old ≡ 16) × Netted board.now stretches.now stored.now at.old nets.old }
+    requires { Evaluable circuit.now.board circuit.now.stretches stored.now volts.now × Evaluable circuit.now.board circuit.now.stretches stored.now at.old × (length at.old ≡ 16) × Netted circuit.now.board circuit.now.stretches stored.now at.old nets.old }
 {
-    let nodes = board::nodes(board);
-    let mut i: usize = 0;
-    while i <= nodes {
-        nets::move_to(board, stretches, stored, i, volts[i], at, nets);
-        i += 1;
+    let nodes = circuit.nodes();
+    for i in 0..nodes + 1 {
+        circuit.move_to(stored, i, volts[i], at, nets);
     }
 }
 
 // The same net currents, as such moves leave them.
 fn moved(
     out: Stdout,
-    board: &[u64; 293],
-    stretches: &[i64; 408],
+    circuit: &Circuit,
     stored: &[i64; 32],
     volts: &[i64; 16],
 ) -> io::Result<()>
-    requires { Evaluable board.now stretches.now stored.now volts.now }
+    requires { Evaluable circuit.now.board circuit.now.stretches stored.now volts.now }
 {
     let mut at = [0i64; 16];
-    let mut nets = nets::taken(board, stretches, stored, &at);
-    move_all(board, stretches, stored, volts, &mut at, &mut nets);
-    let nodes = board::nodes(board);
+    let mut nets = circuit.net_currents(stored, &at);
+    move_all(circuit, stored, volts, &mut at, &mut nets);
+    let nodes = circuit.nodes();
     print!(out; " moved")?;
     for i in 0..16usize {
         if i <= nodes {
@@ -173,33 +166,31 @@ fn row(out: Stdout, x: &[i64; 32], n: usize) -> io::Result<()> {
 // The stored currents after a sample.
 fn advanced(
     out: Stdout,
-    board: &[u64; 293],
-    stretches: &[i64; 408],
+    circuit: &Circuit,
     volts: &[i64; 16],
     stored: &mut [i64; 32],
 ) -> io::Result<()>
-    requires { Evaluable board.now stretches.now stored.old volts.now × (length stored.old ≡ 32) }
+    requires { Evaluable circuit.now.board circuit.now.stretches stored.old volts.now × (length stored.old ≡ 32) }
 {
-    match advance::advance(board, stretches, volts, stored) {
-        Advanced::Stored => print!(out; " stored")?,
-        Advanced::Beyond => print!(out; " beyond")?,
+    match circuit.advance(volts, stored) {
+        Ok(()) => print!(out; " stored")?,
+        Err(Beyond) => print!(out; " beyond")?,
     }
-    row(out, stored, board::count(board))?;
+    row(out, stored, circuit.count())?;
     print!(out; "\n")
 }
 
 // What a circuit does at these voltages with these stored currents.
 pub fn sample(
     out: Stdout,
-    board: &[u64; 293],
-    stretches: &[i64; 408],
+    circuit: &Circuit,
     volts: &[i64; 16],
     stored: &mut [i64; 32],
 ) -> io::Result<()>
-    requires { Evaluable board.now stretches.now stored.old volts.now × (length stored.old ≡ 32) }
+    requires { Evaluable circuit.now.board circuit.now.stretches stored.old volts.now × (length stored.old ≡ 32) }
 {
-    flows(out, board, stretches, stored, volts)?;
-    nets(out, board, stretches, stored, volts)?;
-    moved(out, board, stretches, stored, volts)?;
-    advanced(out, board, stretches, volts, stored)
+    flows(out, circuit, stored, volts)?;
+    nets(out, circuit, stored, volts)?;
+    moved(out, circuit, stored, volts)?;
+    advanced(out, circuit, volts, stored)
 }

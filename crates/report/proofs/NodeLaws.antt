@@ -20,7 +20,8 @@ use Rattle.image.specs.declared.parts.Parts.{Parts}
 use Rattle.image.proofs.Sound.{in_limits}
 use Rattle.circuit.specs.Board.{network_on, Laid}
 use Rattle.circuit.specs.Bound.{Bounding}
-use Rattle.circuit.specs.declared.bound.Bound.TheVariants.{Nothing}
+use Rattle.std.specs.Prelude.{Option, Some, None}
+use Rattle.std.specs.Option.{unwrap_or}
 use Rattle.opening.specs.Opening.{board_of, stretches_of}
 use Rattle.opening.proofs.BoardIs.{laid, network_is}
 use Rattle.report.specs.Nodes.{node_line, node_lines, Greatest}
@@ -44,9 +45,14 @@ big_enough N h i f =
     omega (arith, m, steepest_fits N h i)
 
 -- so the least fits, unless there is no free node
-pub greatest_none : (board : List ℕ) (stretches : List ℤ) → InLimits (network_on board stretches) → Bounding board stretches 0 Nothing → Greatest (network_on board stretches) 0
+pub greatest_none : (board : List ℕ) (stretches : List ℤ) → InLimits (network_on board stretches) → Bounding board stretches 0 None → Greatest (network_on board stretches) 0
 greatest_none board stretches h (inl e) = inl (e, refl)
 greatest_none board stretches h (inr f) = absurd (omega (arith, f (2 ^ 36) (big_enough (network_on board stretches) h)))
+
+-- the least bound, and 0 for none
+pub greatest_of : (board : List ℕ) (stretches : List ℤ) → InLimits (network_on board stretches) → (o : Option ℕ) → Bounding board stretches 0 o → Greatest (network_on board stretches) (unwrap_or o 0)
+greatest_of board stretches h (Some b) p = inr p
+greatest_of board stretches h None p = greatest_none board stretches h p
 
 -- the board and the stretches of a sound circuit
 module _ (parts : Parts) (board : List ℕ) (stretches : List ℤ) (sound : Sound parts) (b : board ≡ board_of parts plain) (s : stretches ≡ stretches_of parts) where

@@ -6,7 +6,4 @@ use Rattle.circuit.specs.Nets.{Netted}
 use Rattle.bench_circuit.proofs.show.move_all.Given as goal
 
 abbrev pub invariant-loop-i : goal.invariant-loop-i
-invariant-loop-i l = (l.i ≤ l.nodes + 1) × (l.nodes ≡ nodes_on l.board) × Evaluable l.board l.stretches l.stored l.at × (length l.at ≡ 16) × Netted l.board l.stretches l.stored l.at l.nets
-
-abbrev pub decreases-loop-i : goal.decreases-loop-i
-decreases-loop-i l = l.nodes + 1 - l.i
+invariant-loop-i l = (l.i ≤ l.nodes + 1) × (l.nodes ≡ nodes_on l.circuit.board) × Evaluable l.circuit.board l.circuit.stretches l.stored l.at × (length l.at ≡ 16) × Netted l.circuit.board l.circuit.stretches l.stored l.at l.nets

@@ -1,6 +1,6 @@
-use Rattle.report.proofs.NodeLaws.{greatest_none}
+use Rattle.report.proofs.NodeLaws.{greatest_of}
 use Rattle.report.proofs.nodes.greatest.Goals as goal
 
-pub returns-in-Nothing : goal.returns-in-Nothing
-returns-in-Nothing c =
-    greatest_none c.args.board.now c.args.stretches.now c.requires.limits (c.in-Nothing.ensures)
+pub returns : goal.returns
+returns c =
+    rw c.unwrap_or.ensures (greatest_of c.args.circuit.now.board c.args.circuit.now.stretches c.requires.limits c.least_bound.result c.least_bound.ensures)

@@ -7,7 +7,7 @@ use Rattle.report.proofs.nodes.put_node.Goals as goal
 
 pub rounded_up-least-requires : goal.rounded_up-least-requires
 rounded_up-least-requires c =
-    let N = network_on c.args.board.now c.args.stretches.now in
+    let N = network_on c.args.circuit.now.board c.args.circuit.now.stretches in
     let limits = c.requires.0.limits in
     let held = c.held-held.ensures in
     (omega (arith, held, leak_held N c.args.i, limits.leaks), omega (arith, held, c.steepest-steepest.ensures, held_fits N limits c.args.i, steepest_fits N limits c.args.i))
