@@ -2,11 +2,11 @@
 ghost use Rattle.std.specs.Prelude.{◌≡◌, ◌/◌, ◌<◌, ℤ, ◌-ℤ◌, length, set};
 ghost use Rattle.units.specs.Voltage.{Within, InRange};
 ghost use Rattle.network.specs.Network.{current, steepest_of, reading, breakpoint_limit, stored_limit};
-ghost use Rattle.circuit.specs.Board.{count_on, plain_conductance, branch_on, Laid, Evaluable, Ends, across_on, flow_on, end_at, node_on, other_on, leaving_on};
+ghost use Rattle.circuit.specs.Board.{count_on, first_on, breakpoints_on, plain_conductance, branch_on, Laid, Evaluable, Ends, across_on, flow_on, end_at, node_on, other_on, leaving_on};
 
 use crate::Circuit;
 use network::kind;
-use stretch::curve;
+use stretch::curve::Curve;
 use units::signed;
 // Which end of an element a node is.
 #[derive(Clone, Copy)]
@@ -31,6 +31,18 @@ impl Circuit {
         End::Neither
     }
 
+    // The curve of element j, which has one.
+    pub fn curve(&self, j: usize) -> Curve<'_>
+        requires { j < 32 }
+        ensures { (result.stretches.now ≡ self.now.stretches) × (result.first ≡ first_on self.now.board j) × (result.breakpoints ≡ breakpoints_on self.now.board j) }
+    {
+        Curve {
+            stretches: &self.stretches,
+            first: self.first(j),
+            breakpoints: self.breakpoints(j),
+        }
+    }
+
     // What element j carries from p to q at the voltage v between them, its stored current being x. That it has
     // a curve is told by its conductance, which is read in any case: it is zero there alone.
     pub fn carried(&self, j: usize, x: i64, v: i64) -> i64
@@ -39,7 +51,7 @@ impl Circuit {
     {
         let g = self.conductance(j);
         if g == 0 {
-            return curve::current(&self.stretches, self.first(j), self.breakpoints(j), v);
+            return self.curve(j).current(v);
         }
         signed::minus(signed::times(signed::whole(g), v), x)
     }
@@ -84,13 +96,7 @@ impl Circuit {
     {
         let g = self.conductance(j);
         if g == 0 {
-            return curve::change(
-                &self.stretches,
-                self.first(j),
-                self.breakpoints(j),
-                old,
-                new,
-            );
+            return self.curve(j).change(old, new);
         }
         signed::times(signed::whole(g), signed::minus(new, old))
     }
@@ -149,7 +155,7 @@ impl Circuit {
         ensures { result ≡ steepest_of (branch_on self.now.board self.now.stretches j).law }
     {
         if kind::has_curve(self.kind(j)) {
-            return curve::steepest(&self.stretches, self.first(j), self.breakpoints(j));
+            return self.curve(j).steepest();
         }
         self.conductance(j)
     }

@@ -1,7 +1,7 @@
 -- What the current of a curve and its greatest slope rest on. Assumes nothing.
 use mathlib.Core.Path.{◌≡◌, refl, sym, ◌∙◌, ap}
 use mathlib.Core.List.{List, [], ◌∷◌}
-use Prim.Native.Nat.{ℕ, zero, suc, ◌+◌, ◌*◌, ◌^◌, ◌≤◌, ◌<◌, max}
+use Prim.Native.Nat.{ℕ, zero, suc, ◌+◌, ◌*◌, ◌-◌, ◌^◌, ◌≤◌, ◌<◌, max}
 use native.Mathlib.Omega.{arith}
 use lib.IntN.{ℤ, pos, nat_abs, ◌+ℤ◌, ◌-ℤ◌, ◌*ℤ◌}
 use lib.ListN.{length, get_or, drop}
@@ -33,6 +33,12 @@ module _ (stretches : List ℤ) (first m : ℕ) where
   pub breakpoint_in_lem : (j : ℕ) → j < m → reading (breakpoints_in stretches first m) j ≡ breakpoint_in stretches (first + j)
   unfolding breakpoints_in
   breakpoint_in_lem j h = tabulate-at (λ (i : ℕ). breakpoint_in stretches (first + i)) m j (pos 0) h
+
+  -- what a look at a row finds, as a breakpoint of the curve's own
+  pub row_begins : (row : ℕ) → first ≤ row → row < first + m → breakpoint_in stretches row ≡ reading (breakpoints_in stretches first m) (row - first)
+  row_begins row from to =
+      let same : first + (row - first) ≡ row = omega arith in
+      rw (breakpoint_in_lem (row - first) (omega arith), same) refl
 
   -- the curve's breakpoints are those that its rows begin with
   pub breakpoints_from : (bs : List ℤ) → length bs ≡ m → ((i : ℕ) → i < m → reading stretches (3 * (first + i) + 0) ≡ reading bs i) → breakpoints_in stretches first m ≡ bs

@@ -101,10 +101,6 @@ module _ (number : ℕ → ℕ → ℤ) (before : List ℤ) (first : ℕ) where
       here (suc (suc zero)) l = isZ
       here (suc (suc (suc k))) l = absurd (omega arith)
 
-  -- all of them
-  pub rows_all : (n m : ℕ) (after : List ℤ) → n ≡ m → Rows number before first (n + 1) after → Rows number before first (m + 1) after
-  rows_all n m after e f = rw (← e) f
-
 -- ---- lines lowered, one after the other
 
 module _ (before : List ℤ) (first : ℕ) (current : ℤ) where

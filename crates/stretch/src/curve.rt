@@ -1,5 +1,5 @@
-// The current of a curve, from its stretches.
-ghost use Rattle.std.specs.Prelude.{true, cond, ◌≡◌, ◌+◌, ◌≤◌, ◌<◌, max, ◌-ℤ◌};
+// A curve of the table of stretches, and its current.
+ghost use Rattle.std.specs.Prelude.{true, cond, ◌≡◌, ◌+◌, ◌≤◌, ◌<◌, ◌-ℤ◌};
 ghost use Rattle.std.specs.Int.Signed.{lt_z};
 ghost use Rattle.units.specs.Voltage.{Within};
 ghost use Rattle.network.specs.Network.{greatest, breakpoint_limit, Rising};
@@ -7,6 +7,14 @@ ghost use Rattle.stretch.specs.Stretch.{rows, stretch_of, Near, slopes_in, break
 
 use crate::stretches;
 use units::signed;
+
+// A curve as it stands in the table: how many breakpoints it has, and the row of its first stretch.
+#[derive(Clone, Copy)]
+pub struct Curve<'a> {
+    pub stretches: &'a [i64; 408],
+    pub first: usize,
+    pub breakpoints: usize,
+}
 
 // How far a look at the last breakpoint of `half` of them carries the search: past them all, if v has
 // reached it.
@@ -16,134 +24,120 @@ fn passed(v: i64, breakpoint: i64, half: usize) -> usize
     if signed::less(v, breakpoint) { 0 } else { half }
 }
 
-// A row at or before that of v's stretch, and at most four before it. v's stretch is the row's or at most
-// `left` later; each look halves what is left.
-fn near(stretches: &[i64; 408], first: usize, m: usize, v: i64) -> usize
-    requires { (first + m < rows) × Rising (breakpoints_in stretches.now first m) }
-    ensures { Near (breakpoints_in stretches.now first m) v first result }
-{
-    let mut row = first;
-    let mut left = m;
-    while 4 < left {
-        let half = left / 2;
-        row += passed(v, stretches::breakpoint(stretches, row + half - 1), half);
-        left -= half;
-    }
-    row
-}
-
-// From a row at or before that of v's stretch on, the row of v's stretch. It is found from the left: where
-// jumps are foreseen and rows are few, that is faster than to halve them.
-fn onward(stretches: &[i64; 408], first: usize, m: usize, v: i64, from: usize) -> usize
-    requires { (first + m < rows) × Rising (breakpoints_in stretches.now first m) × (first ≤ from) × (from ≤ first + stretch_of (breakpoints_in stretches.now first m) v) }
-    ensures { result ≡ first + stretch_of (breakpoints_in stretches.now first m) v }
-{
-    let end = first + m;
-    let mut row = from;
-    while row < end {
-        if signed::less(v, stretches::breakpoint(stretches, row)) {
-            return row;
+impl Curve<'_> {
+    // A row at or before that of v's stretch, and at most four before it. v's stretch is the row's or at most
+    // `left` later; each look halves what is left.
+    fn near(&self, v: i64) -> usize
+        requires { (self.now.first + self.now.breakpoints < rows) × Rising (breakpoints_in self.now.stretches.now self.now.first self.now.breakpoints) }
+        ensures { Near (breakpoints_in self.now.stretches.now self.now.first self.now.breakpoints) v self.now.first result }
+    {
+        let mut row = self.first;
+        let mut left = self.breakpoints;
+        while 4 < left {
+            let half = left / 2;
+            row += passed(
+                v,
+                stretches::breakpoint(self.stretches, row + half - 1),
+                half,
+            );
+            left -= half;
         }
-        row += 1;
+        row
     }
-    row
-}
 
-// The row of v's stretch.
-fn row_of(stretches: &[i64; 408], first: usize, m: usize, v: i64) -> usize
-    requires { (first + m < rows) × Rising (breakpoints_in stretches.now first m) }
-    ensures { result ≡ first + stretch_of (breakpoints_in stretches.now first m) v }
-{
-    onward(stretches, first, m, v, near(stretches, first, m, v))
-}
-
-// The stretch that v lies in.
-pub fn stretch(stretches: &[i64; 408], first: usize, m: usize, v: i64) -> usize
-    requires { (first + m < rows) × Rising (breakpoints_in stretches.now first m) }
-    ensures { result ≡ stretch_of (breakpoints_in stretches.now first m) v }
-{
-    row_of(stretches, first, m, v) - first
-}
-
-// The current of a curve at v: its line's, on the stretch that v lies in, whose row is handed over.
-fn line(stretches: &[i64; 408], first: usize, m: usize, v: i64, row: usize) -> i64
-    requires { CurveReady stretches.now first m × Within breakpoint_limit v × (row ≡ first + stretch_of (breakpoints_in stretches.now first m) v) }
-    ensures { result ≡ curve_current stretches.now first m v }
-{
-    signed::plus(
-        signed::times(signed::whole(stretches::slope(stretches, row)), v),
-        stretches::at_zero(stretches, row),
-    )
-}
-
-// .. wherever its row is.
-pub fn current(stretches: &[i64; 408], first: usize, m: usize, v: i64) -> i64
-    requires { CurveReady stretches.now first m × Within breakpoint_limit v }
-    ensures { result ≡ curve_current stretches.now first m v }
-{
-    line(stretches, first, m, v, row_of(stretches, first, m, v))
-}
-
-// Whether v lies in the stretch of a row, or beyond it.
-fn has_reached(stretches: &[i64; 408], first: usize, m: usize, v: i64, row: usize) -> bool
-    requires { (first + m < rows) × Rising (breakpoints_in stretches.now first m) × (first ≤ row) × (row ≤ first + m) }
-    ensures { result ≡ true → row ≤ first + stretch_of (breakpoints_in stretches.now first m) v }
-{
-    if first < row {
-        return !signed::less(v, stretches::breakpoint(stretches, row - 1));
+    // From a row at or before that of v's stretch on, the row of v's stretch. It is found from the left: where
+    // jumps are foreseen and rows are few, that is faster than to halve them.
+    fn onward(&self, v: i64, from: usize) -> usize
+        requires { (self.now.first + self.now.breakpoints < rows) × Rising (breakpoints_in self.now.stretches.now self.now.first self.now.breakpoints) × (self.now.first ≤ from) × (from ≤ self.now.first + stretch_of (breakpoints_in self.now.stretches.now self.now.first self.now.breakpoints) v) }
+        ensures { result ≡ self.now.first + stretch_of (breakpoints_in self.now.stretches.now self.now.first self.now.breakpoints) v }
+    {
+        let end = self.first + self.breakpoints;
+        for row in from..end {
+            if signed::less(v, stretches::breakpoint(self.stretches, row)) {
+                return row;
+            }
+        }
+        end
     }
-    true
-}
 
-// Whether it lies in it.
-fn lies_in(stretches: &[i64; 408], first: usize, m: usize, v: i64, row: usize) -> bool
-    requires { (first + m < rows) × Rising (breakpoints_in stretches.now first m) × (first ≤ row) × (row ≤ first + m) }
-    ensures { result ≡ true → row ≡ first + stretch_of (breakpoints_in stretches.now first m) v }
-{
-    if !has_reached(stretches, first, m, v, row) {
-        return false;
+    // The row of v's stretch.
+    fn row_of(&self, v: i64) -> usize
+        requires { (self.now.first + self.now.breakpoints < rows) × Rising (breakpoints_in self.now.stretches.now self.now.first self.now.breakpoints) }
+        ensures { result ≡ self.now.first + stretch_of (breakpoints_in self.now.stretches.now self.now.first self.now.breakpoints) v }
+    {
+        self.onward(v, self.near(v))
     }
-    if row < first + m {
-        return signed::less(v, stretches::breakpoint(stretches, row));
-    }
-    true
-}
 
-// What a curve carries more at `to` than at `from`. Mostly both lie in one stretch, and only one of them is
-// searched for.
-pub fn change(stretches: &[i64; 408], first: usize, m: usize, from: i64, to: i64) -> i64
-    requires { CurveReady stretches.now first m × Within breakpoint_limit from × Within breakpoint_limit to }
-    ensures { result ≡ curve_current stretches.now first m to -ℤ curve_current stretches.now first m from }
-{
-    let row = row_of(stretches, first, m, from);
-    if lies_in(stretches, first, m, to, row) {
-        return signed::times(
-            signed::whole(stretches::slope(stretches, row)),
-            signed::minus(to, from),
-        );
+    // The stretch that v lies in.
+    pub fn stretch(&self, v: i64) -> usize
+        requires { (self.now.first + self.now.breakpoints < rows) × Rising (breakpoints_in self.now.stretches.now self.now.first self.now.breakpoints) }
+        ensures { result ≡ stretch_of (breakpoints_in self.now.stretches.now self.now.first self.now.breakpoints) v }
+    {
+        self.row_of(v) - self.first
     }
-    signed::minus(
-        current(stretches, first, m, to),
-        line(stretches, first, m, from, row),
-    )
-}
 
-fn larger(a: u64, b: u64) -> u64
-    ensures { result ≡ max a b }
-{
-    if a < b { b } else { a }
-}
-
-// The greatest slope of a curve.
-pub fn steepest(stretches: &[i64; 408], first: usize, m: usize) -> u64
-    requires { first + m < rows }
-    ensures { result ≡ greatest (slopes_in stretches.now first m) }
-{
-    let mut i = 1 + m;
-    let mut most: u64 = 0;
-    while 0 < i {
-        i -= 1;
-        most = larger(stretches::slope(stretches, first + i), most);
+    // The current at v: that of the line of v's stretch, whose row is handed over.
+    fn line(&self, v: i64, row: usize) -> i64
+        requires { CurveReady self.now.stretches.now self.now.first self.now.breakpoints × Within breakpoint_limit v × (row ≡ self.now.first + stretch_of (breakpoints_in self.now.stretches.now self.now.first self.now.breakpoints) v) }
+        ensures { result ≡ curve_current self.now.stretches.now self.now.first self.now.breakpoints v }
+    {
+        signed::plus(
+            signed::times(signed::whole(stretches::slope(self.stretches, row)), v),
+            stretches::at_zero(self.stretches, row),
+        )
     }
-    most
+
+    // .. wherever its row is.
+    pub fn current(&self, v: i64) -> i64
+        requires { CurveReady self.now.stretches.now self.now.first self.now.breakpoints × Within breakpoint_limit v }
+        ensures { result ≡ curve_current self.now.stretches.now self.now.first self.now.breakpoints v }
+    {
+        self.line(v, self.row_of(v))
+    }
+
+    // Whether v lies in the stretch of a row, or beyond it.
+    fn has_reached(&self, v: i64, row: usize) -> bool
+        requires { (self.now.first + self.now.breakpoints < rows) × Rising (breakpoints_in self.now.stretches.now self.now.first self.now.breakpoints) × (self.now.first ≤ row) × (row ≤ self.now.first + self.now.breakpoints) }
+        ensures { result ≡ true → row ≤ self.now.first + stretch_of (breakpoints_in self.now.stretches.now self.now.first self.now.breakpoints) v }
+    {
+        row == self.first || !signed::less(v, stretches::breakpoint(self.stretches, row - 1))
+    }
+
+    // Whether it lies in it.
+    fn lies_in(&self, v: i64, row: usize) -> bool
+        requires { (self.now.first + self.now.breakpoints < rows) × Rising (breakpoints_in self.now.stretches.now self.now.first self.now.breakpoints) × (self.now.first ≤ row) × (row ≤ self.now.first + self.now.breakpoints) }
+        ensures { result ≡ true → row ≡ self.now.first + stretch_of (breakpoints_in self.now.stretches.now self.now.first self.now.breakpoints) v }
+    {
+        self.has_reached(v, row)
+            && (row == self.first + self.breakpoints
+                || signed::less(v, stretches::breakpoint(self.stretches, row)))
+    }
+
+    // What the curve carries more at `to` than at `from`. Mostly both lie in one stretch, and only one of them
+    // is searched for.
+    pub fn change(&self, from: i64, to: i64) -> i64
+        requires { CurveReady self.now.stretches.now self.now.first self.now.breakpoints × Within breakpoint_limit from × Within breakpoint_limit to }
+        ensures { result ≡ curve_current self.now.stretches.now self.now.first self.now.breakpoints to -ℤ curve_current self.now.stretches.now self.now.first self.now.breakpoints from }
+    {
+        let row = self.row_of(from);
+        if self.lies_in(to, row) {
+            return signed::times(
+                signed::whole(stretches::slope(self.stretches, row)),
+                signed::minus(to, from),
+            );
+        }
+        signed::minus(self.current(to), self.line(from, row))
+    }
+
+    // The greatest slope.
+    pub fn steepest(&self) -> u64
+        requires { self.now.first + self.now.breakpoints < rows }
+        ensures { result ≡ greatest (slopes_in self.now.stretches.now self.now.first self.now.breakpoints) }
+    {
+        let mut most = 0;
+        for i in 0..self.breakpoints + 1 {
+            most = stretches::slope(self.stretches, self.first + i).max(most);
+        }
+        most
+    }
 }

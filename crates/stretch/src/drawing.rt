@@ -5,7 +5,8 @@ ghost use Rattle.units.specs.Voltage.{Within};
 ghost use Rattle.network.specs.Network.{conductance_limit, breakpoint_limit, CurveInLimits};
 ghost use Rattle.stretch.specs.Stretch.{rows, stretches_size, at_zero_in, slopes_to, breakpoints_to, Step, Drawn, Lowered, Filled};
 
-use crate::{curve, stretches};
+use crate::curve::Curve;
+use crate::stretches;
 use units::signed;
 
 // A slope of the curve's own, as wide as the table's.
@@ -54,8 +55,7 @@ fn draw(
     ensures { Drawn (slopes_to slopes.now m) (breakpoints_to breakpoints.now m) stretches.old first (m + 1) stretches.new }
 {
     let mut line: i64 = 0;
-    let mut i: usize = 0;
-    while i < m {
+    for i in 0..m {
         put(
             stretches,
             first + i,
@@ -64,9 +64,8 @@ fn draw(
             line,
         );
         line = signed::plus(line, step(slopes, breakpoints, m, i));
-        i += 1;
     }
-    put(stretches, first + i, 0, wide(slopes[i]), line);
+    put(stretches, first + m, 0, wide(slopes[m]), line);
 }
 
 // Takes a current off the lines of n rows.
@@ -74,11 +73,9 @@ fn lower(stretches: &mut [i64; 408], first: usize, n: usize, current: i64)
     requires { (first + n ≤ rows) × (length stretches.old ≡ stretches_size) × ((i : ℕ) → i < n → nat_abs (at_zero_in stretches.old (first + i)) + nat_abs current < 2 ^ 63) }
     ensures { Lowered stretches.old first n current stretches.new }
 {
-    let mut i: usize = 0;
-    while i < n {
+    for i in 0..n {
         let line = signed::minus(stretches::at_zero(stretches, first + i), current);
         stretches[3 * (first + i) + 2] = line;
-        i += 1;
     }
 }
 
@@ -95,7 +92,13 @@ pub fn fill(
     ensures { Filled (slopes_to slopes.now m) (breakpoints_to breakpoints.now m) stretches.old first (m + 1) stretches.new }
 {
     draw(slopes, breakpoints, m, first, stretches);
-    let zero = first + curve::stretch(stretches, first, m, 0);
+    let zero = first
+        + Curve {
+            stretches,
+            first,
+            breakpoints: m,
+        }
+        .stretch(0);
     let current = stretches::at_zero(stretches, zero);
     lower(stretches, first, m + 1, current);
 }

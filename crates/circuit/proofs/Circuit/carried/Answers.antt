@@ -18,13 +18,13 @@ use Rattle.circuit.proofs.Circuit.carried.Goals as goal
 pub current-requires : goal.current-requires
 current-requires c =
     let curved : has_curve (kind_on c.args.self.now.board c.args.j) ≡ true = curve_told _ _ c.requires.0 c.args.j c.requires.1 (sym c.conductance-g.ensures ∙ c.if-g-eq0.true) in
-    (rw (c.first.ensures, c.breakpoints.ensures) (c.requires.0.curves c.args.j c.requires.1 curved), rw (to_z-of_z c.ranges.v) c.requires.3)
+    (rw (c.curve.ensures.0, c.curve.ensures.1, c.curve.ensures.2) (c.requires.0.curves c.args.j c.requires.1 curved), rw (to_z-of_z c.ranges.v) c.requires.3)
 
 pub returns-then-g-eq0 : goal.returns-then-g-eq0
 returns-then-g-eq0 c =
     let curved : has_curve (kind_on c.args.self.now.board c.args.j) ≡ true = curve_told _ _ c.requires.0 c.args.j c.requires.1 (sym c.conductance-g.ensures ∙ c.if-g-eq0.true) in
     let e : to_z w64 (of_z w64 c.current.result) ≡ c.current.result = search rules in
-    let is = rw (c.first.ensures, c.breakpoints.ensures, to_z-of_z c.ranges.v) at c.current.ensures in
+    let is = rw (c.curve.ensures.0, c.curve.ensures.1, c.curve.ensures.2, to_z-of_z c.ranges.v) at c.current.ensures in
     e ∙ is ∙ curve_current_lem c.args.self.now.board c.args.self.now.stretches c.args.j curved c.args.x c.args.v
 
 pub whole-requires : goal.whole-requires

@@ -17,14 +17,14 @@ use Rattle.circuit.proofs.Circuit.gained.Goals as goal
 pub change-requires : goal.change-requires
 change-requires c =
     let curved : has_curve (kind_on c.args.self.now.board c.args.j) ≡ true = curve_told _ _ c.requires.0 c.args.j c.requires.1 (sym c.conductance-g.ensures ∙ c.if-g-eq0.true) in
-    rw (c.first.ensures, c.breakpoints.ensures, to_z-of_z c.ranges.old, to_z-of_z c.ranges.new) (c.requires.0.curves c.args.j c.requires.1 curved, c.requires.2, c.requires.3)
+    rw (c.curve.ensures.0, c.curve.ensures.1, c.curve.ensures.2, to_z-of_z c.ranges.old, to_z-of_z c.ranges.new) (c.requires.0.curves c.args.j c.requires.1 curved, c.requires.2, c.requires.3)
 
 pub returns-then-g-eq0 : goal.returns-then-g-eq0
 returns-then-g-eq0 c =
     let curved : has_curve (kind_on c.args.self.now.board c.args.j) ≡ true = curve_told _ _ c.requires.0 c.args.j c.requires.1 (sym c.conductance-g.ensures ∙ c.if-g-eq0.true) in
     λ x.
     let e : to_z w64 (of_z w64 c.change.result) ≡ c.change.result = search rules in
-    let k = rw (c.first.ensures, c.breakpoints.ensures, to_z-of_z c.ranges.old, to_z-of_z c.ranges.new) at c.change.ensures in
+    let k = rw (c.curve.ensures.0, c.curve.ensures.1, c.curve.ensures.2, to_z-of_z c.ranges.old, to_z-of_z c.ranges.new) at c.change.ensures in
     e ∙ k ∙ rw (curve_current_lem c.args.self.now.board c.args.self.now.stretches c.args.j curved x c.args.new, curve_current_lem c.args.self.now.board c.args.self.now.stretches c.args.j curved x c.args.old)
 
 pub whole-requires : goal.whole-requires

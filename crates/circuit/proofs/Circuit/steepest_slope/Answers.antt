@@ -8,7 +8,7 @@ use Rattle.circuit.proofs.Circuit.steepest_slope.Goals as goal
 pub returns-then-has_curve : goal.returns-then-has_curve
 returns-then-has_curve c =
     let curved : has_curve (kind_on c.args.self.now.board c.args.j) ≡ true = rw c.kind.ensures at (sym c.has_curve.ensures ∙ c.if-has_curve.true) in
-    (rw (c.first.ensures, c.breakpoints.ensures) at c.steepest.ensures) ∙ curve_steepest c.args.self.now.board c.args.self.now.stretches c.args.j curved
+    (rw (c.curve.ensures.0, c.curve.ensures.1, c.curve.ensures.2) at c.steepest.ensures) ∙ curve_steepest c.args.self.now.board c.args.self.now.stretches c.args.j curved
 
 pub returns : goal.returns
 returns c =

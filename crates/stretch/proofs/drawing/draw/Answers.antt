@@ -8,12 +8,12 @@ use mir.Val.{to_z, of_z}
 use borrow.Author.Rules.{rules}
 use Rattle.network.specs.Network.{reading}
 use Rattle.stretch.specs.Stretch.{offset, slopes_to, breakpoints_to, drawn_number}
-use Rattle.stretch.proofs.DrawingLaws.{few, slope_to, breakpoint_to, breakpoints_to_lem, offset_small, rows_none, rows_more, rows_all}
+use Rattle.stretch.proofs.DrawingLaws.{few, slope_to, breakpoint_to, breakpoints_to_lem, offset_small, rows_none, rows_more}
 use Rattle.stretch.proofs.drawing.draw.Goals as goal
 
 pub loop-i-init : goal.loop-i-init
 unfolding offset
-loop-i-init c = (search rules, refl, rows_none _ _ _)
+loop-i-init c = (refl, rows_none _ _ _)
 
 pub bounds-breakpoints-i : goal.bounds-breakpoints-i
 bounds-breakpoints-i c =
@@ -30,7 +30,7 @@ plus-line-requires c =
     let room : (c.loop-i.i < c.args.m) × (c.args.m ≤ 16) = (c.loop-i-test.true, few _ _ _ c.requires.0) in
     let e : to_z w64 (of_z w64 c.step.result) ≡ c.step.result = search rules in
     let n = c.loop-i in
-    rw e (omega (arith, ap nat_abs n.invariant.1, offset_small (slopes_to c.args.slopes.now c.args.m) (breakpoints_to c.args.breakpoints.now c.args.m) c.requires.0 n.i, c.step.ensures.small, room))
+    rw e (omega (arith, ap nat_abs n.invariant.0, offset_small (slopes_to c.args.slopes.now c.args.m) (breakpoints_to c.args.breakpoints.now c.args.m) c.requires.0 n.i, c.step.ensures.small, room))
 
 pub loop-i-preserved : goal.loop-i-preserved
 unfolding drawn_number
@@ -41,20 +41,20 @@ loop-i-preserved c =
     let e : to_z w64 (of_z w64 c.plus-line.result) ≡ c.plus-line.result = search rules in
     let f : to_z w64 (of_z w64 c.step.result) ≡ c.step.result = search rules in
     let is = e ∙ (rw f at c.plus-line.ensures) in (
-      omega (arith, room),
-      is ∙ ap (λ (y : ℤ). y +ℤ c.step.result) n.invariant.1 ∙ sym c.step.ensures.value,
-      rw c.put.ensures (rows_more (drawn_number (slopes_to c.args.slopes.now c.args.m) (breakpoints_to c.args.breakpoints.now c.args.m)) _ _ n.i n.stretches _ _ _ (omega (arith, room, c.requires)) at-breakpoint (ap pos (c.wide.ensures.0 ∙ sym (slope_to c.args.slopes.now c.args.breakpoints.now c.args.m n.i (omega (arith, room))))) n.invariant.1 n.invariant.2),
+      is ∙ ap (λ (y : ℤ). y +ℤ c.step.result) n.invariant.0 ∙ sym c.step.ensures.value,
+      rw c.put.ensures (rows_more (drawn_number (slopes_to c.args.slopes.now c.args.m) (breakpoints_to c.args.breakpoints.now c.args.m)) _ _ n.i n.stretches _ _ _ (omega (arith, room, c.requires)) at-breakpoint (ap pos (c.wide.ensures.0 ∙ sym (slope_to c.args.slopes.now c.args.breakpoints.now c.args.m n.i (omega (arith, room))))) n.invariant.0 n.invariant.1),
     )
 
-pub bounds-slopes-i-2 : goal.bounds-slopes-i-2
-bounds-slopes-i-2 c = omega (arith, few _ _ _ c.requires.0, c.loop-i.invariant.0)
+pub bounds-slopes-m : goal.bounds-slopes-m
+bounds-slopes-m c = omega (arith, few _ _ _ c.requires.0)
 
 pub returns : goal.returns
 unfolding drawn_number
 returns c =
     let n = c.loop-i in
-    let bs = breakpoints_to_lem c.args.slopes.now c.args.breakpoints.now c.args.m in
-    let e : n.i ≡ c.args.m = omega (arith, n.invariant.0) in
-    let past : pos 0 ≡ reading (breakpoints_to c.args.breakpoints.now c.args.m) n.i = sym (get_or-eq_default (breakpoints_to c.args.breakpoints.now c.args.m) (pos 0) (omega (arith, bs, e))) in
-    let f = rows_more (drawn_number (slopes_to c.args.slopes.now c.args.m) (breakpoints_to c.args.breakpoints.now c.args.m)) c.args.stretches.now c.args.first n.i n.stretches (pos 0) _ _ (omega (arith, c.requires, e)) past (ap pos (c.wide-2.ensures.0 ∙ sym (slope_to c.args.slopes.now c.args.breakpoints.now c.args.m n.i (omega (arith, e))))) n.invariant.1 n.invariant.2 in
-    rows_all _ _ _ n.i c.args.m _ e (rw c.put-2.ensures f)
+    let m = c.args.m in
+    let bs = breakpoints_to_lem c.args.slopes.now c.args.breakpoints.now m in
+    let e : n.i ≡ m = omega arith in
+    let past : pos 0 ≡ reading (breakpoints_to c.args.breakpoints.now m) m = sym (get_or-eq_default (breakpoints_to c.args.breakpoints.now m) (pos 0) (omega (arith, bs))) in
+    let f = rows_more (drawn_number (slopes_to c.args.slopes.now m) (breakpoints_to c.args.breakpoints.now m)) c.args.stretches.now c.args.first m n.stretches (pos 0) _ _ (omega (arith, c.requires)) past (ap pos (c.wide-2.ensures.0 ∙ sym (slope_to c.args.slopes.now c.args.breakpoints.now m m (omega arith)))) (rw e at n.invariant.0) (rw e at n.invariant.1) in
+    rw c.put-2.ensures f

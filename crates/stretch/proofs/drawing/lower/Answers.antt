@@ -14,4 +14,4 @@ loop-i-preserved c =
     let l = c.loop-i in
     let e : to_z w64 (of_z w64 c.minus-line.result) ≡ c.minus-line.result = search rules in
     let is = e ∙ (rw at-line at c.minus-line.ensures) in
-    (omega arith, lowered_more c.args.stretches.now c.args.first (to_z w64 (of_z w64 c.args.current)) l.i l.stretches (to_z w64 (of_z w64 c.minus-line.result)) (omega (arith, c.requires.0, c.requires.1, c.loop-i-test.true)) is l.invariant.1)
+    lowered_more c.args.stretches.now c.args.first (to_z w64 (of_z w64 c.args.current)) l.i l.stretches (to_z w64 (of_z w64 c.minus-line.result)) (omega (arith, c.requires.0, c.requires.1, c.loop-i-test.true)) is l.invariant
