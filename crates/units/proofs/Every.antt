@@ -1,6 +1,8 @@
 -- Laws of the tests: what `every` and `between` say when they are true, and what makes them false. Assumes nothing.
-use Rattle.std.proofs.Common.{◌≡◌, ℕ, zero, suc, ◌+◌, ◌<◌, ◌≤◌, Bool, true, false, ◌&&◌, leb, ◌⊎◌, sym, refl, ap, ◌∙◌, inl, inr, ⊎_elim, add-one, arith, leb-true}
+use Rattle.std.proofs.Common.{◌≡◌, ℕ, zero, suc, ◌+◌, ◌<◌, ◌≤◌, Bool, true, false, ◌&&◌, leb, ◌⊎◌, sym, refl, ap, ◌∙◌, inl, inr, ⊎_elim, add-one, arith, leb-true, List, length, get_or, take, ◌-◌}
 use mathlib.Core.Bool.{false≢true}
+use Rattle.std.specs.List.{list_all, IsAllAdjacentAnswer}
+use Rattle.std.proofs.lemmas.List.Folds.{list_all_more}
 use Rattle.units.specs.Table.{between, every}
 
 -- both of two tests
@@ -61,3 +63,14 @@ pub every_same : (f g : ℕ → Bool) (n : ℕ) → ((i : ℕ) → i < n → f i
 unfolding every
 every_same f g zero same = refl
 every_same f g (suc n) same = rw (every_same f g n (λ i l. same i (omega arith)), same n (omega arith))
+
+-- std's test of each element of a list's first n is that of each place below n
+pub every_of_all : {A : Type 0} (p : A → Bool) (xs : List A) (d : A) (n : ℕ) → n ≤ length xs → list_all p (take n xs) ≡ every (λ (j : ℕ). p (get_or xs j d)) n
+unfolding every
+every_of_all p xs d zero few = refl
+every_of_all p xs d (suc n) few = rw (← add-one, list_all_more p xs n d (omega arith), every_of_all p xs d n (omega arith))
+
+-- std's test of each element and the next
+pub every_of_adjacent : {A : Type 0} (p : A → A → Bool) (xs : List A) (d : A) (r : Bool) → IsAllAdjacentAnswer (λ (x y : A) (b : Bool). b ≡ p x y) xs r → r ≡ every (λ (j : ℕ). p (get_or xs j d) (get_or xs (j + 1) d)) (length xs - 1)
+every_of_adjacent p xs d true all = sym (every_each _ (length xs - 1) (λ j h. sym (all j d (omega arith))))
+every_of_adjacent p xs d false (k, h, none) = sym (every_fails _ (length xs - 1) k (omega arith) (sym (none d)))
