@@ -1,5 +1,6 @@
 // Rules 2 to 5 over a circuit's parts, whatever they come from.
-ghost use Rattle.std.specs.Prelude.{◌≡◌, true, ℕ, suc, ◌≤◌, ◌<◌, leb, get_or};
+ghost use Rattle.std.specs.Prelude.{◌≡◌, true, ℕ, suc, ◌≤◌, ◌<◌, leb, get_or, length, ◌-◌};
+ghost use Rattle.std.specs.List.{list_all};
 ghost use Rattle.std.specs.Int.Signed.{lt_z};
 ghost use Rattle.units.specs.Table.{every};
 ghost use Rattle.units.specs.Voltage.{within};
@@ -52,70 +53,24 @@ fn slope_fits(slope: u32) -> bool
     slope as u64 <= limits::CONDUCTANCE
 }
 
-fn slopes_fit(slopes: [u32; 17], n: usize) -> bool
-    requires { n ≤ suc breakpoint_count_limit }
-    ensures { result ≡ every (slope_fits slopes) n }
-{
-    let mut j: usize = 0;
-    while j < n {
-        if !slope_fits(slopes[j]) {
-            return false;
-        }
-        j += 1;
-    }
-    true
-}
-
 fn breakpoint_fits(breakpoint: i32) -> bool
     ensures { result ≡ within breakpoint_limit breakpoint }
 {
     signed::size(breakpoint as i64) <= limits::BREAKPOINT
 }
 
-fn breakpoints_fit(breakpoints: [i32; 16], n: usize) -> bool
-    requires { n ≤ breakpoint_count_limit }
-    ensures { result ≡ every (breakpoint_fits breakpoints) n }
-{
-    let mut j: usize = 0;
-    while j < n {
-        if !breakpoint_fits(breakpoints[j]) {
-            return false;
-        }
-        j += 1;
-    }
-    true
-}
-
-fn below(a: i32, b: i32) -> bool
-    ensures { result ≡ lt_z a b }
-{
-    a < b
-}
-
-// Whether breakpoints 0 to n rise, each above the one before.
-fn rising(breakpoints: [i32; 16], n: usize) -> bool
-    requires { n < breakpoint_count_limit }
-    ensures { result ≡ every (rises breakpoints) n }
-{
-    let mut j: usize = 0;
-    while j < n {
-        if !below(breakpoints[j], breakpoints[j + 1]) {
-            return false;
-        }
-        j += 1;
-    }
-    true
-}
-
-// Whether a curve's slopes and breakpoints are as they should be.
-fn curve_fits(c: Curve) -> bool
-    requires { (1 ≤ c.count) × (c.count ≤ breakpoint_count_limit) }
-    ensures { result ≡ curve_fits c }
+// Whether a curve's slopes and breakpoints are as they should be: of m breakpoints each lies above the
+// one before, and there is one slope more.
+fn curve_fits(c: &Curve) -> bool
+    requires { (1 ≤ c.now.count) × (c.now.count ≤ breakpoint_count_limit) }
+    ensures { result ≡ curve_fits c.now }
 {
     let m = c.count as usize;
-    let slopes = c.slopes;
-    let breakpoints = c.breakpoints;
-    slopes_fit(slopes, m + 1) & breakpoints_fit(breakpoints, m) & rising(breakpoints, m - 1)
+    let slopes = &c.slopes[..m + 1];
+    let breakpoints = &c.breakpoints[..m];
+    slopes.iter().all(|slope| slope_fits(*slope))
+        & breakpoints.iter().all(|breakpoint| breakpoint_fits(*breakpoint))
+        & breakpoints.is_sorted_by(|a, b| *a < *b)
 }
 
 // Whether those of the first n curves are.
@@ -125,7 +80,7 @@ pub fn curves_fit(curves: [Curve; 8], n: usize) -> bool
 {
     let mut k: usize = 0;
     while k < n {
-        if !curve_fits(curves[k]) {
+        if !curve_fits(&curves[k]) {
             return false;
         }
         k += 1;

@@ -2,6 +2,7 @@
 use Rattle.std.proofs.Common.{◌≡◌, ℕ, zero, suc, ◌+◌, ◌<◌, ◌≤◌, Bool, true, false, ◌&&◌, leb, ◌⊎◌, sym, refl, ap, ◌∙◌, inl, inr, ⊎_elim, add-one, arith, leb-true, List, length, get_or, take, ◌-◌}
 use mathlib.Core.Bool.{false≢true}
 use Rattle.std.specs.List.{list_all, IsAllAdjacentAnswer}
+use lib.Seq.{get_or-take, length-take-le}
 use Rattle.std.proofs.lemmas.List.Folds.{list_all_more}
 use Rattle.units.specs.Table.{between, every}
 
@@ -70,7 +71,10 @@ unfolding every
 every_of_all p xs d zero few = refl
 every_of_all p xs d (suc n) few = rw (← add-one, list_all_more p xs n d (omega arith), every_of_all p xs d n (omega arith))
 
--- std's test of each element and the next
-pub every_of_adjacent : {A : Type 0} (p : A → A → Bool) (xs : List A) (d : A) (r : Bool) → IsAllAdjacentAnswer (λ (x y : A) (b : Bool). b ≡ p x y) xs r → r ≡ every (λ (j : ℕ). p (get_or xs j d) (get_or xs (j + 1) d)) (length xs - 1)
-every_of_adjacent p xs d true all = sym (every_each _ (length xs - 1) (λ j h. sym (all j d (omega arith))))
-every_of_adjacent p xs d false (k, h, none) = sym (every_fails _ (length xs - 1) k (omega arith) (sym (none d)))
+-- and its test of each of them and the next
+pub every_of_adjacent : {A : Type 0} (p : A → A → Bool) (xs : List A) (d : A) (n : ℕ) (r : Bool) → n ≤ length xs → IsAllAdjacentAnswer (λ (x y : A) (b : Bool). b ≡ p x y) (take n xs) r → r ≡ every (λ (j : ℕ). p (get_or xs j d) (get_or xs (j + 1) d)) (n - 1)
+every_of_adjacent {A} p xs d n r few all = rw (length-take-le n xs few) at (whole (take n xs) r all) ∙ every_same _ _ (n - 1) (λ j h. rw (get_or-take n xs j d (omega arith), get_or-take n xs (j + 1) d (omega arith)))
+  where
+    whole : (ys : List A) (r : Bool) → IsAllAdjacentAnswer (λ (x y : A) (b : Bool). b ≡ p x y) ys r → r ≡ every (λ (j : ℕ). p (get_or ys j d) (get_or ys (j + 1) d)) (length ys - 1)
+    whole ys true all = sym (every_each _ (length ys - 1) (λ j h. sym (all j d (omega arith))))
+    whole ys false (k, h, none) = sym (every_fails _ (length ys - 1) k (omega arith) (sym (none d)))
