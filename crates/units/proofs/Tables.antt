@@ -1,6 +1,8 @@
 -- Laws of lists that are made place by place: `tabulate`, and the padded arrays that the code fills. Assumes nothing.
 use Rattle.std.proofs.Common.{◌≡◌, ℕ, zero, suc, ◌+◌, ◌<◌, ◌≤◌, cond, ltb, ◌⊎◌, List, [], ◌∷◌, ◌++◌, length, get_or, set, replicate, sym, refl, ap, ◌∙◌, inl, inr, ⊎_elim, arith, length-set, get_or-set_other, get_or-set_same, ext_get_or, le-ltb, lt-ltb}
 use lib.ListN.{length-replicate, get_or-replicate, get_or-eq_default}
+use denote.Param.Members.{Mut, Called}
+use Rattle.std.specs.Array.{IsFromFnResult, IsFromFnResultFrom}
 use Rattle.units.proofs.Integers.{decide_n}
 use Rattle.units.specs.Table.{tabulate, padded, overlaid}
 
@@ -98,6 +100,31 @@ padded-same none size f g n same =
   where
     each : (i : ℕ) → cond (ltb i n) (f i) none ≡ cond (ltb i n) (g i) none
     each i = ⊎_elim (λ (h : n ≤ i). rw (le-ltb i n h)) (λ (h : i < n). rw (lt-ltb i n h, same i h)) (decide_n n i)
+
+-- ---- std's `from_fn`
+
+-- the array that calls at each number in turn gave, where each call answers h and leaves the closure as it was
+pub tabulate-from_fn : {F B : Type 0} (g : Mut F (ℕ × Unit {0}) B) (h : ℕ → B) (f : F) (ys : List B) (n : ℕ) → IsFromFnResult g f ys n → ((i : ℕ) (y : B) (q : F) → i < n → Called g f (i, tt) y q → (q ≡ f) × (y ≡ h i)) → ys ≡ tabulate h n
+unfolding tabulate
+tabulate-from_fn {F} {B} g h f [] n made says = let e : n ≡ 0 = sym made.long in rw e refl
+tabulate-from_fn {F} {B} g h f (d ∷ rest) n made says =
+    let ys = d ∷ rest in
+    ext_get_or d ys (tabulate h n) (made.long ∙ sym (tabulate-length h n))
+    (λ i l. let b : i < n = rw made.long at l in each 0 n made.each (λ j y q s r k. says j y q (omega arith) k) i d (omega arith) (omega arith) ∙ sym (tabulate-at h n i d b))
+  where
+    each : (a m : ℕ) → IsFromFnResultFrom g f (d ∷ rest) a m → ((i : ℕ) (y : B) (q : F) → a ≤ i → i < a + m → Called g f (i, tt) y q → (q ≡ f) × (y ≡ h i)) → (i : ℕ) (e : B) → a ≤ i → i < a + m → get_or (d ∷ rest) i e ≡ h i
+    each a zero made says i e low high = absurd (omega arith)
+    each a (suc m) (q, y, here, call, others) says i e low high =
+        let k = says a y q (omega arith) (omega arith) call in
+        ⊎_elim
+        (λ (r : suc a ≤ i). each (a + 1) m (rw k.0 at others) (λ j z p s t c. says j z p (omega arith) (omega arith) c) i e (omega arith) (omega arith))
+        (λ (r : i < suc a). let b : i ≡ a = omega arith in rw b (here.1 e ∙ k.1))
+        (decide_n (suc a) i)
+
+-- and where it fills the first places alone
+pub padded_from_fn : {F B : Type 0} (g : Mut F (ℕ × Unit {0}) B) (none : B) (size : ℕ) (h : ℕ → B) (n : ℕ) (f : F) (ys : List B) → IsFromFnResult g f ys size → ((i : ℕ) (y : B) (q : F) → i < size → Called g f (i, tt) y q → (q ≡ f) × (y ≡ cond (ltb i n) (h i) none)) → ys ≡ padded none size h n
+unfolding padded
+padded_from_fn g none size h n f ys made says = tabulate-from_fn g (λ (j : ℕ). cond (ltb j n) (h j) none) f ys size made says
 
 -- ---- overlaid
 
