@@ -7,17 +7,19 @@ use native.Mathlib.Omega.{arith}
 use native.Mathlib.Numerals.{add-one}
 use lib.Dec.{eqb, leb, ltb}
 use lib.IntN.{pos, nat_abs}
-use lib.ListN.{get_or}
+use lib.ListN.{length, take, get_or, get_or-eq_default}
+use Rattle.std.specs.List.{list_all}
 use borrow.Author.Tests.{leb-true, ltb-true, eqb-false, not-true}
 use Rattle.units.specs.Table.{between, every}
 use Rattle.units.proofs.Tables.{tabulate-length, tabulate-at, tabulate-past}
-use Rattle.units.proofs.Every.{both, between_says, every_says, every_same}
+use Rattle.units.proofs.Every.{both, between_says, every_says, every_fails, every_same, every_of_all}
 use Rattle.units.proofs.Integers.{decide_n}
 use Rattle.network.specs.Network.{reading, node_limit, branch_limit, conductance_limit, breakpoint_limit, breakpoint_count_limit, CurveInLimits}
 use Rattle.network.specs.Kind.{has_curve, resistor_kind, diode_kind}
-use Rattle.image.specs.Parts.{curve_limit, lowest_rate, highest_rate, version1, version2, no_curve, curve_of, slopes_of, breakpoints_of, header_fits, curve_size_fits, curve_sizes_fit, slope_fits, breakpoint_fits, rises, curve_fits, curves_fit, kind_allowed, element_fits}
-use Rattle.image.specs.Conductance.{conductance_fits}
-use Rattle.image.proofs.Places.{curve_there}
+use Rattle.image.specs.Parts.{curve_limit, lowest_rate, highest_rate, version1, version2, no_element, no_curve, curve_of, slopes_of, breakpoints_of, header_fits, curve_size_fits, curve_sizes_fit, slope_fits, breakpoint_fits, rises, curve_fits, curves_fit, kind_allowed, element_fits, elements_fit}
+use Rattle.image.specs.Conductance.{conductance_by, conductance_fits, conductances_fit}
+use Rattle.image.specs.Setting.{plain}
+use Rattle.image.proofs.Places.{element_there, curve_there}
 use Rattle.image.specs.declared.parts.Parts.{Parts}
 use Rattle.image.specs.declared.parts.Curve.{Curve}
 use Rattle.image.specs.declared.parts.Element.{Element}
@@ -66,15 +68,23 @@ header_says parts e =
       version_high = version.1;
     }
 
+pub few_elements : (parts : Parts) → header_fits parts ≡ true → parts.element_count ≤ branch_limit
+few_elements parts e = (header_says parts e).few_elements
+
+pub few_curves : (parts : Parts) → header_fits parts ≡ true → parts.curve_count ≤ curve_limit
+few_curves parts e = (header_says parts e).few_curves
+
 -- rule 3: the size of each curve
 pub curve_size : (parts : Parts) → curve_sizes_fit parts ≡ true → (k : ℕ) → k < parts.curve_count → curve_size_fits (curve_of parts k).count ≡ true
 unfolding curve_sizes_fit
 curve_size parts e k h = every_says (λ (k : ℕ). curve_size_fits (curve_of parts k).count) parts.curve_count k e h
 
--- the rule, over the array
-pub curve_sizes_fit_is : (parts : Parts) → every (λ (k : ℕ). curve_size_fits (get_or parts.curves k no_curve).count) parts.curve_count ≡ curve_sizes_fit parts
+-- the rule, over the curves that there are
+pub curve_sizes_fit_is : (parts : Parts) → parts.curve_count ≤ length parts.curves → list_all (λ (c : Curve). curve_size_fits c.count) (take parts.curve_count parts.curves) ≡ curve_sizes_fit parts
 unfolding curve_sizes_fit
-curve_sizes_fit_is parts = every_same _ _ parts.curve_count (λ k h. ap (λ (c : Curve). curve_size_fits c.count) (sym (curve_there parts k h)))
+curve_sizes_fit_is parts there =
+    every_of_all _ parts.curves no_curve parts.curve_count there
+    ∙ every_same _ _ parts.curve_count (λ k h. ap (λ (c : Curve). curve_size_fits c.count) (sym (curve_there parts k h)))
 
 -- rule 4: a curve is one of the network's
 pub curve_says : (c : Curve) → curve_size_fits c.count ≡ true → curve_fits c ≡ true → CurveInLimits (slopes_of c) (breakpoints_of c)
@@ -107,10 +117,11 @@ curve_says c size e =
           (record { lt = rw (rw add-one at (every_says (rises c.breakpoints) (m - 1) j a.1 (omega (arith, many)))) tt });
     }
 
--- the rule, over the array
-pub curves_fit_is : (parts : Parts) → every (λ (k : ℕ). curve_fits (get_or parts.curves k no_curve)) parts.curve_count ≡ curves_fit parts
+-- the rule, over the curves that there are
+pub curves_fit_is : (parts : Parts) → parts.curve_count ≤ length parts.curves → list_all curve_fits (take parts.curve_count parts.curves) ≡ curves_fit parts
 unfolding curves_fit
-curves_fit_is parts = every_same _ _ parts.curve_count (λ k h. ap curve_fits (sym (curve_there parts k h)))
+curves_fit_is parts there =
+    every_of_all _ parts.curves no_curve parts.curve_count there ∙ every_same _ _ parts.curve_count (λ k h. ap curve_fits (sym (curve_there parts k h)))
 
 -- rule 5
 pub record ElementSays (nodes curves : ℕ) (e : Element) : Type 0 where
@@ -143,6 +154,27 @@ element_says version nodes curves e t =
     yes : (b x y : Bool) → b ≡ true → cond b x y ≡ true → x ≡ true
     yes b x y k h = rw k at h
 
+-- the rule, over the elements that there are
+pub elements_fit_is : (parts : Parts) → parts.element_count ≤ length parts.elements → list_all (element_fits parts.version parts.nodes parts.curve_count) (take parts.element_count parts.elements) ≡ elements_fit parts
+unfolding elements_fit
+elements_fit_is parts there =
+    every_of_all _ parts.elements no_element parts.element_count there
+    ∙ every_same _ _ parts.element_count (λ j h. ap (element_fits parts.version parts.nodes parts.curve_count) (sym (element_there parts j h)))
+
 -- rule 6
 pub conductance_says : (kind g : ℕ) → conductance_fits kind g ≡ true → has_curve kind ≡ false → (1 ≤ g) × (g ≤ conductance_limit)
 conductance_says kind g e n = between_says 1 conductance_limit g (rw n at e)
+
+-- the rule, over the elements that there are
+pub conductances_fit_is : (parts : Parts) → parts.element_count ≤ length parts.elements → list_all (λ (e : Element). conductance_fits e.kind (conductance_by e.kind e.value parts.rate)) (take parts.element_count parts.elements) ≡ conductances_fit parts plain
+unfolding conductances_fit
+conductances_fit_is parts there =
+    every_of_all _ parts.elements no_element parts.element_count there
+    ∙ every_same _ _ parts.element_count (λ j h. ap (λ (e : Element). conductance_fits e.kind (conductance_by e.kind e.value parts.rate)) (sym (element_there parts j h)))
+
+-- where the count is past them, what stands there has no conductance
+pub conductances_past : (parts : Parts) → length parts.elements < parts.element_count → conductances_fit parts plain ≡ false
+unfolding conductances_fit conductance_by
+conductances_past parts past =
+    let j = length parts.elements in
+    every_fails _ parts.element_count j past (rw (element_there parts j past ∙ get_or-eq_default parts.elements no_element (omega arith)))

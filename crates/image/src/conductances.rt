@@ -64,29 +64,13 @@ fn conductance_fits(kind: u8, g: u64) -> bool
     kind::has_curve(kind as u64) | ((1 <= g) & (g <= limits::CONDUCTANCE))
 }
 
-// Whether those of the first n elements are in their limits, where they have one. There are no more
-// than 32 elements, and what stands past them has none that fits.
-fn all_fit(elements: [Element; 32], n: usize, rate: u32) -> bool
-    ensures { result ≡ every (λ (j : ℕ). conductance_fits (get_or elements j no_element).kind (conductance_by (get_or elements j no_element).kind (get_or elements j no_element).value rate)) n }
-{
-    if (limits::ELEMENTS as usize) < n {
-        return false;
-    }
-    let mut j: usize = 0;
-    while j < n {
-        let e = elements[j];
-        if !conductance_fits(e.kind, conductance(e.kind, e.value, rate)) {
-            return false;
-        }
-        j += 1;
-    }
-    true
-}
-
-// Whether those of all elements are.
+// Whether those of all elements are in their limits, where they have one. Where a count is past the array,
+// what stands past it has none that fits.
 pub fn conductances_fit(parts: Parts) -> bool
     ensures { result ≡ conductances_fit parts plain }
 {
-    let elements = parts.elements;
-    all_fit(elements, parts.element_count as usize, parts.rate)
+    let Some(elements) = parts.elements.get(..parts.element_count as usize) else {
+        return false;
+    };
+    elements.iter().all(|e| conductance_fits(e.kind, conductance(e.kind, e.value, parts.rate)))
 }

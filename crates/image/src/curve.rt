@@ -8,6 +8,7 @@ ghost use Rattle.image.specs.Asked.{CurveThere};
 
 use super::parts::Curve;
 use super::{field, parts, rules};
+use std::array;
 use units::bytes;
 
 // How many bytes a curve of m breakpoints has.
@@ -42,46 +43,18 @@ pub fn breakpoint_count(bytes: &[u8]) -> usize
     field::byte(bytes, 0)
 }
 
-pub fn slope(bytes: &[u8], j: usize) -> u64
+pub fn slope(bytes: &[u8], j: usize) -> u32
     requires { 8 + 4 * j ≤ length bytes.now }
     ensures { result ≡ slope_of bytes.now j }
 {
-    bytes::unsigned_at::<4>(bytes, 4 + 4 * j)
+    bytes::unsigned_at::<4>(bytes, 4 + 4 * j) as u32
 }
 
-pub fn breakpoint(bytes: &[u8], j: usize) -> i64
+pub fn breakpoint(bytes: &[u8], j: usize) -> i32
     requires { 12 + 4 * get_or bytes.now 0 0 + 4 * j ≤ length bytes.now }
     ensures { result ≡ breakpoint_of bytes.now j }
 {
-    bytes::signed_at::<4>(bytes, 8 + 4 * breakpoint_count(bytes) + 4 * j)
-}
-
-// The first n slopes.
-fn slopes(bytes: &[u8], n: usize) -> [u32; 17]
-    requires { (n ≤ suc breakpoint_count_limit) × (4 + 4 * n ≤ length bytes.now) }
-    ensures { result ≡ padded 0 (suc breakpoint_count_limit) (slope_of bytes.now) n }
-{
-    let mut slopes = [0; 17];
-    let mut j: usize = 0;
-    while j < n {
-        slopes[j] = slope(bytes, j) as u32;
-        j += 1;
-    }
-    slopes
-}
-
-// The first n breakpoints.
-fn breakpoints(bytes: &[u8], n: usize) -> [i32; 16]
-    requires { (n ≤ breakpoint_count_limit) × (8 + 4 * get_or bytes.now 0 0 + 4 * n ≤ length bytes.now) }
-    ensures { result ≡ padded (pos 0) breakpoint_count_limit (breakpoint_of bytes.now) n }
-{
-    let mut breakpoints = [0; 16];
-    let mut j: usize = 0;
-    while j < n {
-        breakpoints[j] = breakpoint(bytes, j) as i32;
-        j += 1;
-    }
-    breakpoints
+    bytes::signed_at::<4>(bytes, 8 + 4 * breakpoint_count(bytes) + 4 * j) as i32
 }
 
 // The curve of those bytes.
@@ -90,12 +63,10 @@ fn curve_in(bytes: &[u8]) -> Curve
     ensures { result ≡ curve_in bytes.now }
 {
     let m = breakpoint_count(bytes);
-    let slopes = slopes(bytes, m + 1);
-    let breakpoints = breakpoints(bytes, m);
     Curve {
         count: bytes[0],
-        slopes,
-        breakpoints,
+        slopes: array::from_fn(|j| if j < m + 1 { slope(bytes, j) } else { 0 }),
+        breakpoints: array::from_fn(|j| if j < m { breakpoint(bytes, j) } else { 0 }),
     }
 }
 
@@ -104,17 +75,15 @@ pub fn split(image: &[u8], first: usize, count: usize, end: usize) -> bool
     ensures { result ≡ splits image.now first count end }
 {
     let mut at = first;
-    let mut k: usize = 0;
-    while k < count {
-        if image.len() <= at {
+    for _ in 0..count {
+        let Some(m) = image.get(at) else {
             return false;
-        }
-        let m = field::byte(image, at);
+        };
+        let m = *m as usize;
         if !rules::curve_size_fits(m) {
             return false;
         }
         at += curve_length(m);
-        k += 1;
     }
     at == end
 }
@@ -127,12 +96,10 @@ pub fn curves_at(image: &[u8], first: usize, count: usize) -> [Curve; 8]
     let none = parts::no_curve();
     let mut curves = [none; 8];
     let mut at = first;
-    let mut k: usize = 0;
-    while k < count {
+    for k in 0..count {
         let bytes = curve_at(image, at);
         curves[k] = curve_in(bytes);
         at += bytes.len();
-        k += 1;
     }
     curves
 }
@@ -151,14 +118,12 @@ pub fn paddings_fit(image: &[u8], first: usize, count: usize) -> bool
     ensures { result ≡ every (λ (k : ℕ). padding_fits (curve_bytes image.now (start_from image.now first k))) count }
 {
     let mut at = first;
-    let mut k: usize = 0;
-    while k < count {
+    for _ in 0..count {
         let bytes = curve_at(image, at);
         if !padding_fits(bytes) {
             return false;
         }
         at += bytes.len();
-        k += 1;
     }
     true
 }

@@ -7,6 +7,7 @@ ghost use Rattle.image.specs.Format.{element_size, element_at};
 
 use super::parts::Element;
 use super::{limits, parts};
+use std::array;
 use units::bytes;
 
 fn element_at(image: &[u8], j: usize) -> Element
@@ -28,12 +29,5 @@ pub fn elements_at(image: &[u8], n: usize) -> [Element; 32]
     requires { (n ≤ branch_limit) × (element_size * n ≤ length image.now) }
     ensures { result ≡ padded no_element branch_limit (element_at image.now) n }
 {
-    let none = parts::no_element();
-    let mut elements = [none; 32];
-    let mut j: usize = 0;
-    while j < n {
-        elements[j] = element_at(image, j);
-        j += 1;
-    }
-    elements
+    array::from_fn(|j| if j < n { element_at(image, j) } else { parts::no_element() })
 }

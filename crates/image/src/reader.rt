@@ -75,11 +75,10 @@ pub fn read(image: &[u8]) -> Opened
         return refused(Number::Sizes);
     }
     let parts = filled(image, header);
-    let curves = parts.curves;
-    if !(curve::paddings_fit(image, first, n) & rules::curves_fit(curves, n)) {
+    if !(curve::paddings_fit(image, first, n) & rules::curves_fit(&parts)) {
         return refused(Number::Curve);
     }
-    if !rules::elements_fit(parts) {
+    if !rules::elements_fit(&parts) {
         return refused(Number::Element);
     }
     Opened {

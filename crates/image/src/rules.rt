@@ -1,19 +1,18 @@
 // Rules 2 to 5 over a circuit's parts, whatever they come from.
 ghost use Rattle.std.specs.Prelude.{◌≡◌, true, ℕ, suc, ◌≤◌, ◌<◌, leb, get_or, length, ◌-◌};
-ghost use Rattle.std.specs.List.{list_all};
 ghost use Rattle.std.specs.Int.Signed.{lt_z};
 ghost use Rattle.units.specs.Table.{every};
 ghost use Rattle.units.specs.Voltage.{within};
 ghost use Rattle.network.specs.Network.{branch_limit, conductance_limit, breakpoint_limit, breakpoint_count_limit};
-ghost use Rattle.image.specs.Parts.{curve_limit, no_curve, header_fits, curve_size_fits, slope_fits, breakpoint_fits, rises, curve_fits, kind_allowed, element_fits, elements_fit};
+ghost use Rattle.image.specs.Parts.{curve_limit, no_curve, header_fits, curve_size_fits, curve_sizes_fit, curve_fits, curves_fit, kind_allowed, element_fits, elements_fit};
 
 use super::limits;
 use super::parts::{Curve, Element, Parts};
 use network::kind;
 use units::signed;
 
-pub fn header_fits(parts: Parts) -> bool
-    ensures { result ≡ header_fits parts }
+pub fn header_fits(parts: &Parts) -> bool
+    ensures { result ≡ header_fits parts.now }
 {
     ((1 <= parts.element_count) & (parts.element_count <= limits::ELEMENTS))
         & (parts.curve_count <= limits::CURVES)
@@ -31,20 +30,14 @@ pub fn curve_size_fits(m: usize) -> bool
     (1 <= m) & (m <= limits::BREAKPOINTS)
 }
 
-// Whether the first n curves may.
-pub fn curve_sizes_fit(curves: [Curve; 8], n: usize) -> bool
-    requires { n ≤ curve_limit }
-    ensures { result ≡ every (λ (k : ℕ). curve_size_fits (get_or curves k no_curve).count) n }
+// Whether every curve may have as many as it has.
+pub fn curve_sizes_fit(parts: &Parts) -> bool
+    requires { parts.now.curve_count ≤ curve_limit }
+    ensures { result ≡ curve_sizes_fit parts.now }
 {
-    let mut k: usize = 0;
-    while k < n {
-        let c = curves[k];
-        if !curve_size_fits(c.count as usize) {
-            return false;
-        }
-        k += 1;
-    }
-    true
+    parts.curves[..parts.curve_count as usize]
+        .iter()
+        .all(|c| curve_size_fits(c.count as usize))
 }
 
 fn slope_fits(slope: u32) -> bool
@@ -73,19 +66,14 @@ fn curve_fits(c: &Curve) -> bool
         & breakpoints.is_sorted_by(|a, b| *a < *b)
 }
 
-// Whether those of the first n curves are.
-pub fn curves_fit(curves: [Curve; 8], n: usize) -> bool
-    requires { (n ≤ curve_limit) × ((k : ℕ) → k < n → curve_size_fits (get_or curves k no_curve).count ≡ true) }
-    ensures { result ≡ every (λ (k : ℕ). curve_fits (get_or curves k no_curve)) n }
+// Whether those of every curve are.
+pub fn curves_fit(parts: &Parts) -> bool
+    requires { (parts.now.curve_count ≤ curve_limit) × (curve_sizes_fit parts.now ≡ true) }
+    ensures { result ≡ curves_fit parts.now }
 {
-    let mut k: usize = 0;
-    while k < n {
-        if !curve_fits(&curves[k]) {
-            return false;
-        }
-        k += 1;
-    }
-    true
+    parts.curves[..parts.curve_count as usize]
+        .iter()
+        .all(|c| curve_fits(c))
 }
 
 // Whether a version has elements of a kind.
@@ -108,18 +96,11 @@ fn element_fits(e: Element, version: u8, nodes: u8, curves: u8) -> bool
 }
 
 // Whether those of every element are.
-pub fn elements_fit(parts: Parts) -> bool
-    requires { parts.element_count ≤ branch_limit }
-    ensures { result ≡ elements_fit parts }
+pub fn elements_fit(parts: &Parts) -> bool
+    requires { parts.now.element_count ≤ branch_limit }
+    ensures { result ≡ elements_fit parts.now }
 {
-    let elements = parts.elements;
-    let n = parts.element_count as usize;
-    let mut j: usize = 0;
-    while j < n {
-        if !element_fits(elements[j], parts.version, parts.nodes, parts.curve_count) {
-            return false;
-        }
-        j += 1;
-    }
-    true
+    parts.elements[..parts.element_count as usize]
+        .iter()
+        .all(|e| element_fits(*e, parts.version, parts.nodes, parts.curve_count))
 }

@@ -48,5 +48,5 @@ pub fn header_at(image: &[u8], at: usize) -> Parts
 pub fn trailer_fits(t: Trailer, header: Parts) -> bool
     ensures { result ≡ (header_fits header && eqb t.size trailer_size) }
 {
-    rules::header_fits(header) & (t.size == limits::TRAILER)
+    rules::header_fits(&header) & (t.size == limits::TRAILER)
 }

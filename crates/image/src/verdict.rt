@@ -8,21 +8,20 @@ use super::{conductances, rules};
 use units::number::Number;
 
 // Takes any parts whatever. The lowest number that applies is the answer.
+#[tactic(auto, using(crate::proofs::Says::few_curves, crate::proofs::Says::few_elements), unfolding(crate::specs::Judged::judged))]
 pub fn judge(parts: Parts) -> Number
     ensures { result ≡ judged parts }
 {
-    if !rules::header_fits(parts) {
+    if !rules::header_fits(&parts) {
         return Number::Trailer;
     }
-    let curves = parts.curves;
-    let n = parts.curve_count as usize;
-    if !rules::curve_sizes_fit(curves, n) {
+    if !rules::curve_sizes_fit(&parts) {
         return Number::Sizes;
     }
-    if !rules::curves_fit(curves, n) {
+    if !rules::curves_fit(&parts) {
         return Number::Curve;
     }
-    if !rules::elements_fit(parts) {
+    if !rules::elements_fit(&parts) {
         return Number::Element;
     }
     if !conductances::conductances_fit(parts) {

@@ -81,9 +81,7 @@ curves_fit-requires c =
     let header : HeaderSays (parts_of c.args.image.now) = header_says _ (trailer_says _ trailer-held) in
     let sizes-held : sizes_fit c.args.image.now ≡ true = sym c.sizes_fit.ensures ∙ c.if-not-sizes_fit.false in
     let sizes : SizesSay c.args.image.now = sizes_say _ trailer-held sizes-held in
-    let image = c.args.image.now in
-    rw (c.header_at-header.ensures, c.filled-parts.ensures)
-    (header.few_curves, λ k h. rw (curve_there (parts_of image) k h) at (curve_size (parts_of image) sizes.sizes k h))
+    rw (c.filled-parts.ensures) (header.few_curves, sizes.sizes)
 
 pub returns-then-not-paddings_fit-curves_fit : goal.returns-then-not-paddings_fit-curves_fit
 unfolding curve_bytes_fit parts_of
@@ -92,7 +90,7 @@ returns-then-not-paddings_fit-curves_fit c =
     let trailer-same : c.trailer_fits.result ≡ trailer_fits c.args.image.now = c.trailer_fits.ensures ∙ rw (c.header_at-header.ensures, c.trailer_at-t.ensures.0) (trailer_is c.args.image.now) in
     let trailer-held : trailer_fits c.args.image.now ≡ true = sym trailer-same ∙ c.if-not-trailer_fits.false in
     let sizes-held : sizes_fit c.args.image.now ≡ true = sym c.sizes_fit.ensures ∙ c.if-not-sizes_fit.false in
-    let curves-same : (c.paddings_fit.result && c.curves_fit.result) ≡ curve_bytes_fit c.args.image.now = rw (c.paddings_fit.ensures, c.curves_fit.ensures, c.header_at-header.ensures, c.filled-parts.ensures, curves_fit_is (parts_of c.args.image.now)) in
+    let curves-same : (c.paddings_fit.result && c.curves_fit.result) ≡ curve_bytes_fit c.args.image.now = rw (c.paddings_fit.ensures, c.curves_fit.ensures, c.header_at-header.ensures, c.filled-parts.ensures) in
     read_refused _ _ _ (refused_4 _ length-held trailer-held sizes-held (sym curves-same ∙ c.if-not-paddings_fit-curves_fit.true)) c.refused-then-not-paddings_fit-curves_fit.ensures.0 c.refused-then-not-paddings_fit-curves_fit.ensures.1
 
 pub elements_fit-requires : goal.elements_fit-requires
@@ -109,7 +107,7 @@ returns-then-not-elements_fit c =
     let trailer-same : c.trailer_fits.result ≡ trailer_fits c.args.image.now = c.trailer_fits.ensures ∙ rw (c.header_at-header.ensures, c.trailer_at-t.ensures.0) (trailer_is c.args.image.now) in
     let trailer-held : trailer_fits c.args.image.now ≡ true = sym trailer-same ∙ c.if-not-trailer_fits.false in
     let sizes-held : sizes_fit c.args.image.now ≡ true = sym c.sizes_fit.ensures ∙ c.if-not-sizes_fit.false in
-    let curves-same : (c.paddings_fit.result && c.curves_fit.result) ≡ curve_bytes_fit c.args.image.now = rw (c.paddings_fit.ensures, c.curves_fit.ensures, c.header_at-header.ensures, c.filled-parts.ensures, curves_fit_is (parts_of c.args.image.now)) in
+    let curves-same : (c.paddings_fit.result && c.curves_fit.result) ≡ curve_bytes_fit c.args.image.now = rw (c.paddings_fit.ensures, c.curves_fit.ensures, c.header_at-header.ensures, c.filled-parts.ensures) in
     let curves-held : curve_bytes_fit c.args.image.now ≡ true = sym curves-same ∙ c.if-not-paddings_fit-curves_fit.false in
     let elements_same : c.elements_fit.result ≡ elements_fit (parts_of c.args.image.now) = c.elements_fit.ensures ∙ ap elements_fit c.filled-parts.ensures in
     read_refused _ _ _ (refused_5 _ length-held trailer-held sizes-held curves-held (sym elements_same ∙ c.if-not-elements_fit.true)) c.refused-then-not-elements_fit.ensures.0 c.refused-then-not-elements_fit.ensures.1
@@ -121,7 +119,7 @@ returns c =
     let trailer-same : c.trailer_fits.result ≡ trailer_fits c.args.image.now = c.trailer_fits.ensures ∙ rw (c.header_at-header.ensures, c.trailer_at-t.ensures.0) (trailer_is c.args.image.now) in
     let trailer-held : trailer_fits c.args.image.now ≡ true = sym trailer-same ∙ c.if-not-trailer_fits.false in
     let sizes-held : sizes_fit c.args.image.now ≡ true = sym c.sizes_fit.ensures ∙ c.if-not-sizes_fit.false in
-    let curves-same : (c.paddings_fit.result && c.curves_fit.result) ≡ curve_bytes_fit c.args.image.now = rw (c.paddings_fit.ensures, c.curves_fit.ensures, c.header_at-header.ensures, c.filled-parts.ensures, curves_fit_is (parts_of c.args.image.now)) in
+    let curves-same : (c.paddings_fit.result && c.curves_fit.result) ≡ curve_bytes_fit c.args.image.now = rw (c.paddings_fit.ensures, c.curves_fit.ensures, c.header_at-header.ensures, c.filled-parts.ensures) in
     let curves-held : curve_bytes_fit c.args.image.now ≡ true = sym curves-same ∙ c.if-not-paddings_fit-curves_fit.false in
     let elements_same : c.elements_fit.result ≡ elements_fit (parts_of c.args.image.now) = c.elements_fit.ensures ∙ ap elements_fit c.filled-parts.ensures in
     read_opened _ _ (opened_0 _ length-held trailer-held sizes-held curves-held (sym elements_same ∙ c.if-not-elements_fit.false)) refl c.filled-parts.ensures

@@ -1,23 +1,25 @@
-use mathlib.Core.Path.{◌≡◌, sym, ◌∙◌, ap}
-use lib.ListN.{get_or}
-use borrow.Author.Rules.{rules}
-use Rattle.units.proofs.Tables.{get_d_any}
-use Rattle.units.proofs.Every.{every_none, every_more, every_fails}
-use Rattle.image.specs.Parts.{no_curve, curve_fits}
-use mathlib.Core.List.{[]}
+use Rattle.std.proofs.Common.{◌≡◌, true, ◌≤◌, take, length, sym, ◌∙◌, rules, arith}
+use borrow.Author.Tests.{tests}
+use Rattle.std.specs.List.{All, AllPass}
+use Rattle.std.proofs.iter.Serving.{serving}
+use Rattle.std.proofs.lemmas.Iterator.{YieldsList-from_slice}
+use Rattle.std.proofs.lemmas.Iterator.Search.{all_from_yields_List}
+use Rattle.std.proofs.lemmas.List.Sums.{AllPass-from_list_all}
+use Rattle.image.specs.Parts.{curve_size_fits, curve_fits}
+use Rattle.image.specs.declared.parts.Curve.{Curve}
+use Rattle.image.proofs.Says.{curve_sizes_fit_is, curves_fit_is}
 use Rattle.image.proofs.rules.curves_fit.Goals as goal
 
-pub loop-k-init : goal.loop-k-init
-loop-k-init c = (search rules, every_none _)
+pub all-requires : goal.all-requires
+all-requires c =
+    let parts = c.args.parts.now in
+    let room : parts.curve_count ≤ length parts.curves = search rules in
+    let sizes : All (λ (k : Curve). curve_size_fits k.count ≡ true) (take parts.curve_count parts.curves) = AllPass-from_list_all _ _ (curve_sizes_fit_is parts room ∙ c.requires.1) in
+    grind serving
 
-pub returns-then-not-curve_fits : goal.returns-then-not-curve_fits
-returns-then-not-curve_fits c =
-    let curve : get_or c.args.curves c.loop-k.k (record { count = 0; slopes = []; breakpoints = [] }) ≡ get_or c.args.curves c.loop-k.k no_curve = get_d_any c.args.curves c.loop-k.k _ no_curve (search rules) in
-    let same : c.curve_fits.result ≡ curve_fits (get_or c.args.curves c.loop-k.k no_curve) = c.curve_fits.ensures ∙ ap curve_fits curve in
-    sym (every_fails _ _ c.loop-k.k c.loop-k-test.true (sym same ∙ c.if-not-curve_fits.true))
-
-pub loop-k-preserved : goal.loop-k-preserved
-loop-k-preserved c =
-    let curve : get_or c.args.curves c.loop-k.k (record { count = 0; slopes = []; breakpoints = [] }) ≡ get_or c.args.curves c.loop-k.k no_curve = get_d_any c.args.curves c.loop-k.k _ no_curve (search rules) in
-    let same : c.curve_fits.result ≡ curve_fits (get_or c.args.curves c.loop-k.k no_curve) = c.curve_fits.ensures ∙ ap curve_fits curve in
-    (search rules, every_more _ _ c.loop-k.invariant.1 (sym same ∙ c.if-not-curve_fits.false))
+pub returns : goal.returns
+returns c =
+    let parts = c.args.parts.now in
+    let room : parts.curve_count ≤ length parts.curves = search rules in
+    all_from_yields_List curve_fits _ _ c.all.result c.all.ensures.ran (YieldsList-from_slice (take parts.curve_count parts.curves) cc) (λ x b q k. search (rules, tests))
+    ∙ curves_fit_is parts room
