@@ -29,5 +29,9 @@ pub fn elements_at(image: &[u8], n: usize) -> [Element; 32]
     requires { (n ≤ branch_limit) × (element_size * n ≤ length image.now) }
     ensures { result ≡ padded no_element branch_limit (element_at image.now) n }
 {
-    array::from_fn(|j| if j < n { element_at(image, j) } else { parts::no_element() })
+    array::from_fn(|j| if j < n {
+        element_at(image, j)
+    } else {
+        parts::no_element()
+    })
 }

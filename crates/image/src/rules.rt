@@ -62,7 +62,9 @@ fn curve_fits(c: &Curve) -> bool
     let slopes = &c.slopes[..m + 1];
     let breakpoints = &c.breakpoints[..m];
     slopes.iter().all(|slope| slope_fits(*slope))
-        & breakpoints.iter().all(|breakpoint| breakpoint_fits(*breakpoint))
+        & breakpoints
+            .iter()
+            .all(|breakpoint| breakpoint_fits(*breakpoint))
         & breakpoints.is_sorted_by(|a, b| *a < *b)
 }
 
@@ -100,7 +102,10 @@ pub fn elements_fit(parts: &Parts) -> bool
     requires { parts.now.element_count ≤ branch_limit }
     ensures { result ≡ elements_fit parts.now }
 {
-    parts.elements[..parts.element_count as usize]
-        .iter()
-        .all(|e| element_fits(*e, parts.version, parts.nodes, parts.curve_count))
+    parts.elements[..parts.element_count as usize].iter().all(|e| element_fits(
+        *e,
+        parts.version,
+        parts.nodes,
+        parts.curve_count,
+    ))
 }

@@ -6,8 +6,7 @@ use lib.ListN.{length}
 use Rattle.units.proofs.Every.{between_says}
 use Rattle.image.specs.Parts.{elements_fit}
 use Rattle.image.specs.Format.{shortest, longest, parts_of, length_fits, trailer_fits, sizes_fit, curve_bytes_fit}
-use Rattle.image.proofs.Places.{curve_there}
-use Rattle.image.proofs.Says.{HeaderSays, header_says, curves_fit_is, curve_size}
+use Rattle.image.proofs.Says.{HeaderSays, header_says}
 use Rattle.image.proofs.Opening.{trailer_is, refused_1, refused_2, refused_3, refused_4, refused_5, opened_0, read_refused, read_opened, trailer_says, SizesSay, sizes_say}
 use Rattle.image.specs.declared.parts.Parts.{Parts}
 use Rattle.image.proofs.reader.read.Goals as goal

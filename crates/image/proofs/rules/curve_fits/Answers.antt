@@ -1,4 +1,4 @@
-use Rattle.std.proofs.Common.{◌≡◌, ℕ, ◌+◌, ◌≤◌, pos, take, length, ◌∙◌, leb, rules, arith}
+use Rattle.std.proofs.Common.{ℕ, ◌+◌, ◌≤◌, pos, take, length, ◌∙◌, leb, rules}
 use borrow.Author.Tests.{tests}
 use Rattle.std.specs.Int.Signed.{lt_z}
 use Rattle.std.proofs.lemmas.Fn.{always_returns_same}
