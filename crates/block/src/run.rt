@@ -9,12 +9,13 @@ ghost use Rattle.block.specs.Playing.{Driven, Room, Ran};
 
 use crate::drives;
 use circuit::board;
+use guess::Memory;
 use solve::sample;
 use units::bytes;
 use units::number::Number;
 
 // Where sample j begins: its drives at the driven nodes, and at the free nodes a guess, which may be
-// anything. The last five arrays are what the guess keeps from sample to sample.
+// anything.
 fn begin(
     board: &[u64; 293],
     stretches: &[i64; 408],
@@ -22,17 +23,13 @@ fn begin(
     j: usize,
     x: &[i64; 32],
     volts: &mut [i64; 16],
-    lines: &mut [[f64; 2]; 32],
-    m: &mut [[f64; 15]; 15],
-    inverse: &mut [[f64; 15]; 15],
-    notes: &mut [usize; 96],
-    way: &mut [[f64; 15]; 34],
+    memory: &mut Memory,
 )
     requires { Guessable board.now stretches.now x.now × Driven board.now drives.now j × (length volts.old ≡ 16) }
     ensures { Begun board.now drives.now j volts.new × (length volts.new ≡ 16) }
 {
     drives::place(drives, board::driven(board), j, volts);
-    guess::propose(board, stretches, x, volts, lines, m, inverse, notes, way);
+    guess::propose(board, stretches, x, volts, memory);
 }
 
 // Sample j: its voltages and the stored currents after it.
@@ -43,18 +40,12 @@ fn next(
     j: usize,
     x: &mut [i64; 32],
     volts: &mut [i64; 16],
-    lines: &mut [[f64; 2]; 32],
-    m: &mut [[f64; 15]; 15],
-    inverse: &mut [[f64; 15]; 15],
-    notes: &mut [usize; 96],
-    way: &mut [[f64; 15]; 34],
+    memory: &mut Memory,
 ) -> Number
     requires { Playable board.now stretches.now x.old × Driven board.now drives.now j × (length volts.old ≡ 16) }
     ensures { Sampled (network_on board.now stretches.now) (drive_at drives.now (driven_on board.now) j) x.old x.new volts.new result × (length volts.new ≡ 16) }
 {
-    begin(
-        board, stretches, drives, j, x, volts, lines, m, inverse, notes, way,
-    );
+    begin(board, stretches, drives, j, x, volts, memory);
     sample::sample(board, stretches, volts, x)
 }
 
@@ -73,11 +64,7 @@ pub fn run(
     requires { Playable board.now stretches.now x.old × Room board.now output n drives.now outputs.old × (length volts.old ≡ 16) }
     ensures { Ran (network_on board.now stretches.now) output (drive_at drives.now (driven_on board.now)) x.old n outputs.old x.new outputs.new result }
 {
-    let mut lines = [[0.0f64; 2]; 32];
-    let mut m = [[0.0f64; 15]; 15];
-    let mut inverse = [[0.0f64; 15]; 15];
-    let mut notes = [0usize; 96];
-    let mut way = [[0.0f64; 15]; 34];
+    let mut memory = Memory::new();
     let mut j: usize = 0;
     while j < n {
         let number = u64::from(next(
@@ -87,11 +74,7 @@ pub fn run(
             j,
             x,
             volts,
-            &mut lines,
-            &mut m,
-            &mut inverse,
-            &mut notes,
-            &mut way,
+            &mut memory,
         ));
         if number != 0 {
             return number * 65536 + (j as u64);

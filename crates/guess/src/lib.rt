@@ -3,13 +3,15 @@
 // of its numbers.
 #![tactic(auto)]
 
+mod choice;
 mod lines;
 mod links;
 mod matrix;
+mod memory;
 mod newton;
-mod notes;
 mod places;
 mod proposal;
+mod rows;
 mod sets;
 mod slide;
 mod tangent;
@@ -17,5 +19,9 @@ mod ties;
 mod way;
 mod whole;
 
+pub use choice::Price;
+pub use memory::Memory;
 pub use newton::Ending;
 pub use proposal::propose;
+pub use tangent::Tangent;
+pub use way::Step;

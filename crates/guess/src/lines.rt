@@ -1,14 +1,14 @@
 // The lines that the elements are taken as, and what is kept of them from sample to sample: each
 // element's tangent, the matrix of their slopes, and its inverse. They stay as long as no curve is on
 // another line, which is most of the time; where one is, only its slope's change is brought in.
-//
-// `lines` has a tangent's two numbers for each element; of a stored element's the second is old, and is
-// never read. `notes` is told in notes.rt.
 ghost use Rattle.std.specs.Prelude.{◌<◌, ◌≤◌};
 ghost use Rattle.circuit.specs.Board.{nodes_on, driven_on, count_on, Laid, Ranged, Evaluable};
 
-use crate::tangent::Tangent;
-use crate::{matrix, notes, tangent, whole};
+use crate::matrix::{self, Matrix, Singular};
+use crate::memory::Memory;
+use crate::rows::Rows;
+use crate::tangent::{self, Tangent};
+use crate::whole;
 use circuit::{board, branch};
 use network::kind;
 use units::voltage::Voltage;
@@ -17,34 +17,15 @@ use units::voltage::Voltage;
 const UPDATES: usize = 8;
 
 // The matrix of the leaks alone.
-fn leaks(board: &[u64; 293]) -> [[f64; 15]; 15]
+fn leaks(board: &[u64; 293]) -> Matrix
     requires { nodes_on board.now ≤ 15 }
 {
     let leak = std::num::nearest_u64_to_f64(board::leak(board));
-    let nodes = board::nodes(board);
     let mut m = [[0.0f64; 15]; 15];
-    let mut k: usize = 0;
-    while k < nodes {
+    for k in 0..board::nodes(board) {
         m[k][k] = leak;
-        k += 1;
     }
     m
-}
-
-fn keep(t: Tangent, j: usize, lines: &mut [[f64; 2]; 32])
-    requires { j < 32 }
-{
-    lines[j][0] = t.slope;
-    lines[j][1] = t.at_zero;
-}
-
-fn kept(lines: &[[f64; 2]; 32], j: usize) -> Tangent
-    requires { j < 32 }
-{
-    Tangent {
-        slope: lines[j][0],
-        at_zero: lines[j][1],
-    }
 }
 
 // All tangents at these voltages, and the matrix of their slopes.
@@ -53,14 +34,12 @@ fn drawn(
     stretches: &[i64; 408],
     stored: &[i64; 32],
     volts: &[i64; 16],
-    lines: &mut [[f64; 2]; 32],
-) -> [[f64; 15]; 15]
+    lines: &mut [Tangent; 32],
+) -> Matrix
     requires { Evaluable board.now stretches.now stored.now volts.now }
 {
     let mut m = leaks(board);
-    let count = board::count(board);
-    let mut j: usize = 0;
-    while j < count {
+    for j in 0..board::count(board) {
         let t = tangent::of_element(board, stretches, stored, volts, j);
         matrix::join(
             &mut m,
@@ -68,48 +47,40 @@ fn drawn(
             board::end_q(board, j),
             t.slope,
         );
-        keep(t, j, lines);
-        j += 1;
+        lines[j] = t;
     }
     m
 }
 
-// Everything from nothing. False if there is no inverse.
+// Everything from nothing.
 fn anew(
     board: &[u64; 293],
     stretches: &[i64; 408],
     stored: &[i64; 32],
     volts: &[i64; 16],
-    lines: &mut [[f64; 2]; 32],
-    m: &mut [[f64; 15]; 15],
-    inverse: &mut [[f64; 15]; 15],
-    notes: &mut [usize; 96],
-) -> bool
+    memory: &mut Memory,
+) -> Result<(), Singular>
     requires { Evaluable board.now stretches.now stored.now volts.now }
 {
-    let fresh = drawn(board, stretches, stored, volts, lines);
-    *m = fresh;
-    if matrix::inverted(fresh, board::driven(board), board::nodes(board), inverse) {
-        notes::made(notes);
-        return true;
-    }
-    notes::lost(notes);
-    false
+    memory.slopes = drawn(board, stretches, stored, volts, &mut memory.lines);
+    memory.lost();
+    memory.inverse = matrix::inverse(&memory.slopes, Rows::free(board))?;
+    memory.made();
+    Ok(())
 }
 
 // Notes which elements have curves.
-pub fn note_curves(board: &[u64; 293], notes: &mut [usize; 96])
+pub fn note_curves(board: &[u64; 293], memory: &mut Memory)
     requires { count_on board.now ≤ 32 }
 {
-    let count = board::count(board);
-    let mut j: usize = 0;
-    notes::no_curves(notes);
-    while j < count {
+    let mut n: usize = 0;
+    for j in 0..board::count(board) {
         if kind::has_curve(board::kind(board, j)) {
-            notes::add_curve(j, notes);
+            memory.curves[n] = j;
+            n += 1;
         }
-        j += 1;
     }
+    memory.curve_count = n;
 }
 
 // The tangent of element j at these voltages, if it has a curve; else what is kept of it.
@@ -117,7 +88,7 @@ fn present(
     board: &[u64; 293],
     stretches: &[i64; 408],
     volts: &[i64; 16],
-    lines: &[[f64; 2]; 32],
+    lines: &[Tangent; 32],
     j: usize,
 ) -> Tangent
     requires { Laid board.now stretches.now × Ranged board.now volts.now × (j < count_on board.now) }
@@ -125,85 +96,58 @@ fn present(
     if kind::has_curve(board::kind(board, j)) {
         return tangent::of_curve(board, stretches, volts, j);
     }
-    kept(lines, j)
+    lines[j]
 }
 
-// One if element j is on another line than is kept of it, else none.
+// Whether element j is on another line than is kept of it.
 fn strays(
     board: &[u64; 293],
     stretches: &[i64; 408],
     volts: &[i64; 16],
-    lines: &[[f64; 2]; 32],
+    lines: &[Tangent; 32],
     j: usize,
-) -> usize
+) -> bool
     requires { Laid board.now stretches.now × Ranged board.now volts.now }
-    ensures { result ≤ 1 }
 {
-    if j < board::count(board) {
-        let t = present(board, stretches, volts, lines, j);
-        if (t.slope != lines[j][0]) | (t.at_zero != lines[j][1]) {
-            return 1;
-        }
-    }
-    0
+    j < board::count(board) && present(board, stretches, volts, lines, j) != lines[j]
 }
 
 // How many of the curves do.
-fn strayed(
-    board: &[u64; 293],
-    stretches: &[i64; 408],
-    volts: &[i64; 16],
-    lines: &[[f64; 2]; 32],
-    notes: &[usize; 96],
-) -> usize
+fn strayed(board: &[u64; 293], stretches: &[i64; 408], volts: &[i64; 16], memory: &Memory) -> usize
     requires { Laid board.now stretches.now × Ranged board.now volts.now }
-    ensures { result ≤ 32 }
 {
-    let curves = notes::curves(notes);
-    let mut others: usize = 0;
-    let mut k: usize = 0;
-    while k < curves {
-        others += strays(board, stretches, volts, lines, notes::curve(notes, k));
-        k += 1;
-    }
-    others
+    memory
+        .curves()
+        .iter()
+        .filter(|j| strays(board, stretches, volts, &memory.lines, **j))
+        .count()
 }
 
-// Element j takes its line at these voltages, in the matrix and in the inverse. False if the inverse can't
+// Element j takes its line at these voltages, in the matrix and in the inverse, unless the inverse can't
 // follow.
 fn retake(
     board: &[u64; 293],
     stretches: &[i64; 408],
     volts: &[i64; 16],
     j: usize,
-    lines: &mut [[f64; 2]; 32],
-    m: &mut [[f64; 15]; 15],
-    inverse: &mut [[f64; 15]; 15],
-    notes: &mut [usize; 96],
-) -> bool
+    memory: &mut Memory,
+) -> Result<(), Singular>
     requires { Laid board.now stretches.now × Ranged board.now volts.now }
 {
     if board::count(board) <= j {
-        return true;
+        return Ok(());
     }
-    let t = present(board, stretches, volts, lines, j);
-    let more = t.slope - lines[j][0];
-    keep(t, j, lines);
+    let t = present(board, stretches, volts, &memory.lines, j);
+    let more = t.slope - memory.lines[j].slope;
+    memory.lines[j] = t;
     if more == 0.0 {
-        return true;
+        return Ok(());
     }
     let p = board::end_p(board, j);
     let q = board::end_q(board, j);
-    matrix::join(m, p, q, more);
-    notes::updated(notes);
-    matrix::update(
-        inverse,
-        p,
-        q,
-        more,
-        board::driven(board),
-        board::nodes(board),
-    )
+    matrix::join(&mut memory.slopes, p, q, more);
+    memory.updated();
+    matrix::update(&mut memory.inverse, p, q, more, Rows::free(board))
 }
 
 // .. so every curve.
@@ -211,62 +155,48 @@ fn retaken(
     board: &[u64; 293],
     stretches: &[i64; 408],
     volts: &[i64; 16],
-    lines: &mut [[f64; 2]; 32],
-    m: &mut [[f64; 15]; 15],
-    inverse: &mut [[f64; 15]; 15],
-    notes: &mut [usize; 96],
-) -> bool
+    memory: &mut Memory,
+) -> Result<(), Singular>
     requires { Laid board.now stretches.now × Ranged board.now volts.now }
 {
-    let curves = notes::curves(notes);
-    let mut k: usize = 0;
-    while k < curves {
-        let j = notes::curve(notes, k);
-        if retake(board, stretches, volts, j, lines, m, inverse, notes) {
-            k += 1;
-        } else {
-            return false;
-        }
+    for k in 0..memory.curves().len() {
+        let j = memory.curves[k];
+        retake(board, stretches, volts, j, memory)?;
     }
-    true
+    Ok(())
 }
 
 // Whether so few curves strayed that updates cost less than an inversion: one for three free nodes at most.
 fn few(board: &[u64; 293], others: usize) -> bool
-    requires { (driven_on board.now ≤ 15) × (others ≤ 32) }
+    requires { driven_on board.now ≤ nodes_on board.now }
 {
-    3 * others + board::driven(board) <= board::nodes(board)
+    others <= (board::nodes(board) - board::driven(board)) / 3
 }
 
-// The inverse of the lines at these voltages: updated where few curves have strayed, else made anew. False
-// if there is none.
+// The inverse of the lines at these voltages: updated where few curves have strayed, else made anew.
 pub fn refreshed(
     board: &[u64; 293],
     stretches: &[i64; 408],
     stored: &[i64; 32],
     volts: &[i64; 16],
-    lines: &mut [[f64; 2]; 32],
-    m: &mut [[f64; 15]; 15],
-    inverse: &mut [[f64; 15]; 15],
-    notes: &mut [usize; 96],
-) -> bool
+    memory: &mut Memory,
+) -> Result<(), Singular>
     requires { Evaluable board.now stretches.now stored.now volts.now }
 {
-    let age = notes::age(notes);
-    if age == 0 {
-        note_curves(board, notes);
-        return anew(board, stretches, stored, volts, lines, m, inverse, notes);
-    }
-    let others = strayed(board, stretches, volts, lines, notes);
+    let Some(updates) = memory.updates else {
+        note_curves(board, memory);
+        return anew(board, stretches, stored, volts, memory);
+    };
+    let others = strayed(board, stretches, volts, memory);
     if others == 0 {
-        return true;
+        return Ok(());
     }
-    if age <= UPDATES && few(board, others) {
-        if retaken(board, stretches, volts, lines, m, inverse, notes) {
-            return true;
+    if updates < UPDATES && few(board, others) {
+        if retaken(board, stretches, volts, memory).is_ok() {
+            return Ok(());
         }
     }
-    anew(board, stretches, stored, volts, lines, m, inverse, notes)
+    anew(board, stretches, stored, volts, memory)
 }
 
 // Whether two lines are one, or meet within a microvolt of v.
@@ -281,7 +211,7 @@ fn holds(
     board: &[u64; 293],
     stretches: &[i64; 408],
     volts: &[i64; 16],
-    lines: &[[f64; 2]; 32],
+    lines: &[Tangent; 32],
     j: usize,
 ) -> bool
     requires { Laid board.now stretches.now × Ranged board.now volts.now }
@@ -293,27 +223,15 @@ fn holds(
         microvolts: branch::across(board, volts, j),
     };
     let t = present(board, stretches, volts, lines, j);
-    meet(kept(lines, j), t, v.to_f64())
+    meet(lines[j], t, v.to_f64())
 }
 
 // .. and every curve.
-pub fn hold(
-    board: &[u64; 293],
-    stretches: &[i64; 408],
-    volts: &[i64; 16],
-    lines: &[[f64; 2]; 32],
-    notes: &[usize; 96],
-) -> bool
+pub fn hold(board: &[u64; 293], stretches: &[i64; 408], volts: &[i64; 16], memory: &Memory) -> bool
     requires { Laid board.now stretches.now × Ranged board.now volts.now }
 {
-    let curves = notes::curves(notes);
-    let mut k: usize = 0;
-    while k < curves {
-        if holds(board, stretches, volts, lines, notes::curve(notes, k)) {
-            k += 1;
-        } else {
-            return false;
-        }
-    }
-    true
+    memory
+        .curves()
+        .iter()
+        .all(|j| holds(board, stretches, volts, &memory.lines, *j))
 }

@@ -1,133 +1,108 @@
 // Matrices over the nodes, and vectors beside them. Row and column k are node k + 1's, driven nodes
 // included: nothing is asked of their places, and a row by node number costs one subtraction. What is
-// done for the free nodes goes from row `first` up to row `end`.
+// done for the free nodes goes over their rows alone.
 //
 // The matrix of the slopes is symmetric, off its diagonal nothing is above zero, and no row's sum is
 // below: no pivot has to be searched for, and a column is read as a row. Vectors are added up row by
 // row, so that no sum waits for its own last step.
 ghost use Rattle.std.specs.Prelude.{◌<◌, ◌≤◌};
 
+use crate::rows::Rows;
+
+pub type Vector = [f64; 15];
+
+pub type Matrix = [[f64; 15]; 15];
+
+// There is no inverse, or it can't be had in this way.
+#[derive(Clone, Copy)]
+pub struct Singular;
+
 // An update of the inverse whose divisor is no larger than this would lose too many digits.
 const LEAST_DIVISOR: f64 = 0.01;
 
 // An element of this slope joins the nodes p and q. Ground has no row.
-pub fn join(m: &mut [[f64; 15]; 15], p: usize, q: usize, slope: f64)
+pub fn join(m: &mut Matrix, p: usize, q: usize, slope: f64)
     requires { (p ≤ 15) × (q ≤ 15) }
 {
     if 0 < p {
-        m[p - 1][p - 1] = m[p - 1][p - 1] + slope;
+        m[p - 1][p - 1] += slope;
     }
     if 0 < q {
-        m[q - 1][q - 1] = m[q - 1][q - 1] + slope;
+        m[q - 1][q - 1] += slope;
     }
     if 0 < p && 0 < q {
-        m[p - 1][q - 1] = m[p - 1][q - 1] - slope;
-        m[q - 1][p - 1] = m[q - 1][p - 1] - slope;
+        m[p - 1][q - 1] -= slope;
+        m[q - 1][p - 1] -= slope;
     }
 }
 
 // A vector, f times, is added to another. All 15 places, whatever the circuit's size: a loop of known
 // length is unrolled.
-pub fn add(v: &[f64; 15], f: f64, sums: &mut [f64; 15]) {
-    let mut k: usize = 0;
-    while k < 15 {
-        sums[k] = sums[k] + f * v[k];
-        k += 1;
-    }
-}
-
-// .. and to row i of a matrix.
-pub fn add_to_row(v: &[f64; 15], f: f64, m: &mut [[f64; 15]; 15], i: usize)
-    requires { i < 15 }
-{
-    let mut k: usize = 0;
-    while k < 15 {
-        m[i][k] = m[i][k] + f * v[k];
-        k += 1;
+pub fn add(v: &Vector, f: f64, sums: &mut Vector) {
+    for k in 0..15 {
+        sums[k] += f * v[k];
     }
 }
 
 // m times v.
-pub fn times(m: &[[f64; 15]; 15], v: &[f64; 15], first: usize, end: usize) -> [f64; 15]
-    requires { end ≤ 15 }
-{
+pub fn times(m: &Matrix, v: &Vector, rows: Rows) -> Vector {
     let mut sums = [0.0f64; 15];
-    let mut j = first;
-    while j < end {
+    for j in rows.first..rows.end {
         add(&m[j], v[j], &mut sums);
-        j += 1;
     }
     sums
 }
 
 // Row k times f, its pivot being taken as one.
-fn scale(a: &mut [[f64; 15]; 15], k: usize, f: f64)
+fn scale(a: &mut Matrix, k: usize, f: f64)
     requires { k < 15 }
 {
     a[k][k] = 1.0;
-    let mut j: usize = 0;
-    while j < 15 {
-        a[k][j] = a[k][j] * f;
-        j += 1;
+    for j in 0..15 {
+        a[k][j] *= f;
     }
 }
 
 // Row k is taken off row i as often as column k has it, unless that is never: most circuits are sparse.
-fn clear_at(a: &mut [[f64; 15]; 15], i: usize, k: usize, row: &[f64; 15])
+fn clear_at(a: &mut Matrix, i: usize, k: usize, row: &Vector)
     requires { (i < 15) × (k < 15) }
 {
     let f = a[i][k];
     if f != 0.0 {
         a[i][k] = 0.0;
-        add_to_row(row, -f, a, i);
+        add(row, -f, &mut a[i]);
     }
 }
 
 // .. off every other row.
-fn clear(a: &mut [[f64; 15]; 15], k: usize, first: usize, end: usize)
-    requires { (k < 15) × (end ≤ 15) }
+fn clear(a: &mut Matrix, k: usize, rows: Rows)
+    requires { k < 15 }
 {
     let row = a[k];
-    let mut i = first;
-    while i < end {
+    for i in rows.first..rows.end {
         if i != k {
             clear_at(a, i, k, &row);
         }
-        i += 1;
     }
 }
 
-// In place, pivot by pivot. False if one isn't above zero.
-fn invert(a: &mut [[f64; 15]; 15], first: usize, end: usize) -> bool
-    requires { end ≤ 15 }
-{
-    let mut k = first;
-    while k < end {
+// The inverse, pivot by pivot, unless one isn't above zero. The caller's matrix stays whole, for what
+// changes in it later is added to it, and its currents are asked for.
+pub fn inverse(m: &Matrix, rows: Rows) -> Result<Matrix, Singular> {
+    let mut a = *m;
+    for k in rows.first..rows.end {
         let pivot = a[k][k];
-        if 0.0 < pivot {
-            scale(a, k, 1.0 / pivot);
-            clear(a, k, first, end);
-            k += 1;
-        } else {
-            return false;
+        if !(0.0 < pivot) {
+            return Err(Singular);
         }
+        scale(&mut a, k, 1.0 / pivot);
+        clear(&mut a, k, rows);
     }
-    true
-}
-
-// The inverse of m, unless a pivot isn't above zero. It is eliminated in a copy: the caller's matrix stays
-// whole, for what changes in it later is added to it, and its currents are asked for.
-pub fn inverted(m: [[f64; 15]; 15], first: usize, end: usize, inverse: &mut [[f64; 15]; 15]) -> bool
-    requires { end ≤ 15 }
-{
-    let mut a = m;
-    let found = invert(&mut a, first, end);
-    *inverse = a;
-    found
+    Ok(a)
 }
 
 // How the nodes answer to a current that is taken out of q and into p. A fixed node has no row.
-fn answers(inverse: &[[f64; 15]; 15], p: usize, q: usize, first: usize) -> [f64; 15]
+fn answers(inverse: &Matrix, p: usize, q: usize, first: usize) -> Vector
     requires { (p ≤ 15) × (q ≤ 15) }
 {
     let mut w = [0.0f64; 15];
@@ -141,7 +116,7 @@ fn answers(inverse: &[[f64; 15]; 15], p: usize, q: usize, first: usize) -> [f64;
 }
 
 // What stands between p and q then.
-fn between(w: &[f64; 15], p: usize, q: usize, first: usize) -> f64
+fn between(w: &Vector, p: usize, q: usize, first: usize) -> f64
     requires { (p ≤ 15) × (q ≤ 15) }
 {
     let at_p = if first < p { w[p - 1] } else { 0.0 };
@@ -150,33 +125,27 @@ fn between(w: &[f64; 15], p: usize, q: usize, first: usize) -> f64
 }
 
 // w, times itself and f, is taken off.
-fn take_product(a: &mut [[f64; 15]; 15], w: &[f64; 15], f: f64, first: usize, end: usize)
-    requires { end ≤ 15 }
-{
-    let mut i = first;
-    while i < end {
-        add_to_row(w, -(f * w[i]), a, i);
-        i += 1;
+fn take_product(a: &mut Matrix, w: &Vector, f: f64, rows: Rows) {
+    for i in rows.first..rows.end {
+        add(w, -(f * w[i]), &mut a[i]);
     }
 }
 
-// The inverse after the slope between p and q has grown by this much: a change of rank one. False if it
-// can't be had so.
+// The inverse after the slope between p and q has grown by this much: a change of rank one.
 pub fn update(
-    inverse: &mut [[f64; 15]; 15],
+    inverse: &mut Matrix,
     p: usize,
     q: usize,
     slope: f64,
-    first: usize,
-    end: usize,
-) -> bool
-    requires { (p ≤ 15) × (q ≤ 15) × (end ≤ 15) }
+    rows: Rows,
+) -> Result<(), Singular>
+    requires { (p ≤ 15) × (q ≤ 15) }
 {
-    let w = answers(inverse, p, q, first);
-    let divisor = 1.0 + slope * between(&w, p, q, first);
-    if LEAST_DIVISOR < divisor {
-        take_product(inverse, &w, slope / divisor, first, end);
-        return true;
+    let w = answers(inverse, p, q, rows.first);
+    let divisor = 1.0 + slope * between(&w, p, q, rows.first);
+    if !(LEAST_DIVISOR < divisor) {
+        return Err(Singular);
     }
-    false
+    take_product(inverse, &w, slope / divisor, rows);
+    Ok(())
 }

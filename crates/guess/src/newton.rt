@@ -6,7 +6,10 @@ ghost use Rattle.units.specs.Voltage.{InRange};
 ghost use Rattle.circuit.specs.Board.{nodes_on, Evaluable};
 ghost use Rattle.guess.specs.Proposal.{Standing, Proposed};
 
-use crate::{lines, matrix, places, ties, whole};
+use crate::matrix::{self, Singular, Vector};
+use crate::memory::Memory;
+use crate::rows::Rows;
+use crate::{lines, places, ties, whole};
 use circuit::{board, nets};
 use units::signed;
 use units::voltage::Voltage;
@@ -47,30 +50,24 @@ fn entering(
     stretches: &[i64; 408],
     stored: &[i64; 32],
     volts: &[i64; 16],
-) -> [f64; 15]
+) -> Vector
     requires { Evaluable board.now stretches.now stored.now volts.now }
 {
     let exact = nets::taken(board, stretches, stored, volts);
-    let nodes = board::nodes(board);
     let mut enters = [0.0f64; 15];
-    let mut k = board::driven(board);
-    while k < nodes {
+    for k in board::driven(board)..board::nodes(board) {
         enters[k] = -std::num::nearest_i64_to_f64(exact[k + 1]);
-        k += 1;
     }
     enters
 }
 
 // The largest of them, either way.
-fn largest(board: &[u64; 293], enters: [f64; 15]) -> f64
+fn largest(board: &[u64; 293], enters: Vector) -> f64
     requires { nodes_on board.now ≤ 15 }
 {
-    let nodes = board::nodes(board);
     let mut most: f64 = 0.0;
-    let mut k = board::driven(board);
-    while k < nodes {
+    for k in board::driven(board)..board::nodes(board) {
         most = larger(most, whole::size(enters[k]));
-        k += 1;
     }
     most
 }
@@ -113,7 +110,7 @@ fn gone(v: i64, step: f64) -> i64
 
 // The node of row k goes a part of the way that x says, and x is what is left of it. How far it went: most
 // nodes go nowhere once they are solved.
-fn go_at(part: f64, k: usize, x: &mut [f64; 15], volts: &mut [i64; 16], board: &[u64; 293]) -> f64
+fn go_at(part: f64, k: usize, x: &mut Vector, volts: &mut [i64; 16], board: &[u64; 293]) -> f64
     requires { (k < nodes_on board.now) × (nodes_on board.now ≤ 15) × Standing board.now volts.old }
     ensures { Standing board.now volts.new }
 {
@@ -127,83 +124,58 @@ fn go_at(part: f64, k: usize, x: &mut [f64; 15], volts: &mut [i64; 16], board: &
 }
 
 // .. and every free node. How far one went at the most.
-fn go(board: &[u64; 293], part: f64, x: &mut [f64; 15], volts: &mut [i64; 16]) -> f64
+fn go(board: &[u64; 293], part: f64, x: &mut Vector, volts: &mut [i64; 16]) -> f64
     requires { (nodes_on board.now ≤ 15) × Standing board.now volts.old }
     ensures { Standing board.now volts.new }
 {
-    let nodes = board::nodes(board);
     let mut most: f64 = 0.0;
-    let mut k = board::driven(board);
-    while k < nodes {
+    for k in board::driven(board)..board::nodes(board) {
         most = larger(most, go_at(part, k, x, volts, board));
-        k += 1;
     }
     most
 }
 
-// What came of the rounds: every curve is on the line that was solved with, which makes the solution
-// exact; or one isn't; or there was nothing to solve with.
-#[derive(Clone, Copy)]
-pub enum Came {
-    Held,
-    Open,
-    Lost,
-}
-
-// How far the nodes have to go, by the lines where they stand. False if there is nothing to solve with.
+// How far the nodes have to go, by the lines where they stand.
 fn solved(
     board: &[u64; 293],
     stretches: &[i64; 408],
     stored: &[i64; 32],
     volts: &[i64; 16],
-    lines: &mut [[f64; 2]; 32],
-    m: &mut [[f64; 15]; 15],
-    inverse: &mut [[f64; 15]; 15],
-    notes: &mut [usize; 96],
-    x: &mut [f64; 15],
-) -> bool
+    memory: &mut Memory,
+) -> Result<Vector, Singular>
     requires { Evaluable board.now stretches.now stored.now volts.now }
 {
-    if !lines::refreshed(board, stretches, stored, volts, lines, m, inverse, notes) {
-        return false;
-    }
+    lines::refreshed(board, stretches, stored, volts, memory)?;
     let enters = entering(board, stretches, stored, volts);
-    *x = matrix::times(inverse, &enters, board::driven(board), board::nodes(board));
-    true
+    Ok(matrix::times(&memory.inverse, &enters, Rows::free(board)))
 }
 
-// Rounds until every curve holds, or no voltage changed, or there were enough of them. x is how far the
-// nodes still have to go. Where only a part of the way was gone, curves that hold tell nothing.
+// Rounds until every curve holds, or no voltage changed, or there were enough of them. What comes back is
+// how far the nodes still have to go, and whether every curve is on the line that was solved with, which
+// makes the solution exact. Where only a part of the way was gone, curves that hold tell nothing.
 fn rounds(
     board: &[u64; 293],
     stretches: &[i64; 408],
     stored: &[i64; 32],
     volts: &mut [i64; 16],
-    lines: &mut [[f64; 2]; 32],
-    m: &mut [[f64; 15]; 15],
-    inverse: &mut [[f64; 15]; 15],
-    notes: &mut [usize; 96],
-    x: &mut [f64; 15],
-) -> Came
+    memory: &mut Memory,
+) -> Result<(Vector, bool), Singular>
     requires { Evaluable board.now stretches.now stored.now volts.old × Standing board.now volts.old }
     ensures { Standing board.now volts.new }
 {
+    let mut x = [0.0f64; 15];
     let mut most: f64 = 1.0;
-    let mut round: u64 = 0;
-    while round < ROUNDS {
-        if !solved(board, stretches, stored, volts, lines, m, inverse, notes, x) {
-            return Came::Lost;
-        }
+    for round in 0..ROUNDS {
+        x = solved(board, stretches, stored, volts, memory)?;
         if most < 0.5 {
-            return Came::Open;
+            return Ok((x, false));
         }
-        most = go(board, damping(round), x, volts);
-        if goes_whole(round) && lines::hold(board, stretches, volts, lines, notes) {
-            return Came::Held;
+        most = go(board, damping(round), &mut x, volts);
+        if goes_whole(round) && lines::hold(board, stretches, volts, memory) {
+            return Ok((x, true));
         }
-        round += 1;
     }
-    Came::Open
+    Ok((x, false))
 }
 
 // The rest of the way in the whole microvolts that the ties find best. What remains then.
@@ -211,25 +183,14 @@ fn end(
     board: &[u64; 293],
     stretches: &[i64; 408],
     stored: &[i64; 32],
-    m: &[[f64; 15]; 15],
-    inverse: &[[f64; 15]; 15],
-    x: [f64; 15],
-    notes: &mut [usize; 96],
-    way: &mut [[f64; 15]; 34],
+    x: Vector,
+    memory: &mut Memory,
     volts: &mut [i64; 16],
 ) -> f64
     requires { Evaluable board.now stretches.now stored.now volts.old × Standing board.now volts.old }
     ensures { Standing board.now volts.new }
 {
-    let mut whole = ties::cut(
-        m,
-        inverse,
-        x,
-        board::driven(board),
-        board::nodes(board),
-        notes,
-        way,
-    );
+    let mut whole = ties::cut(memory, x, Rows::free(board));
     go(board, 1.0, &mut whole, volts);
     largest(board, entering(board, stretches, stored, volts))
 }
@@ -240,27 +201,18 @@ fn search(
     stretches: &[i64; 408],
     stored: &[i64; 32],
     volts: &mut [i64; 16],
-    lines: &mut [[f64; 2]; 32],
-    m: &mut [[f64; 15]; 15],
-    inverse: &mut [[f64; 15]; 15],
-    notes: &mut [usize; 96],
-    way: &mut [[f64; 15]; 34],
-) -> Ending
+    memory: &mut Memory,
+) -> Result<Ending, Singular>
     requires { Evaluable board.now stretches.now stored.now volts.old × Standing board.now volts.old }
     ensures { Standing board.now volts.new }
 {
-    let mut x = [0.0f64; 15];
-    match rounds(
-        board, stretches, stored, volts, lines, m, inverse, notes, &mut x,
-    ) {
-        Came::Lost => Ending::Broken,
-        Came::Held => Ending::Settled(end(
-            board, stretches, stored, m, inverse, x, notes, way, volts,
-        )),
-        Came::Open => Ending::Spent(end(
-            board, stretches, stored, m, inverse, x, notes, way, volts,
-        )),
-    }
+    let (x, held) = rounds(board, stretches, stored, volts, memory)?;
+    let left = end(board, stretches, stored, x, memory, volts);
+    Ok(if held {
+        Ending::Settled(left)
+    } else {
+        Ending::Spent(left)
+    })
 }
 
 // Rounded proposals for the free nodes in `guess`; those of `volts` if the search broke.
@@ -269,29 +221,19 @@ pub fn newton(
     stretches: &[i64; 408],
     stored: &[i64; 32],
     volts: &[i64; 16],
-    lines: &mut [[f64; 2]; 32],
-    m: &mut [[f64; 15]; 15],
-    inverse: &mut [[f64; 15]; 15],
-    notes: &mut [usize; 96],
-    way: &mut [[f64; 15]; 34],
+    memory: &mut Memory,
     guess: &mut [i64; 16],
 ) -> Ending
     requires { Evaluable board.now stretches.now stored.now volts.now × (length guess.old ≡ 16) }
     ensures { Proposed board.now guess.old guess.new }
 {
     let mut at = circuit::places::copied(volts);
-    match search(
-        board, stretches, stored, &mut at, lines, m, inverse, notes, way,
-    ) {
-        Ending::Settled(left) => {
+    match search(board, stretches, stored, &mut at, memory) {
+        Ok(ending) => {
             places::place_free(board, &at, guess);
-            Ending::Settled(left)
+            ending
         }
-        Ending::Spent(left) => {
-            places::place_free(board, &at, guess);
-            Ending::Spent(left)
-        }
-        Ending::Broken => {
+        Err(Singular) => {
             places::place_free(board, volts, guess);
             Ending::Broken
         }

@@ -13,10 +13,8 @@ pub fn seated(board: &[u64; 293], volts: &[i64; 16]) -> [i64; 16]
 {
     let nodes = board::nodes(board);
     let mut at = [0i64; 16];
-    let mut i: usize = 1;
-    while i <= nodes {
+    for i in 1..nodes + 1 {
         at[i] = Voltage::clamped(volts[i]);
-        i += 1;
     }
     at
 }

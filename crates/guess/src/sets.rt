@@ -1,71 +1,68 @@
-// Sets of rows that ties have made one, three numbers for each row: the set that it is in, the row that
-// stands for the set of that number, its root, and whether the row is spared.
+// Sets of rows that ties have made one.
 //
 // Whatever stands in them, what is read is a row.
 ghost use Rattle.std.specs.Prelude.{◌<◌};
 
-use crate::notes;
+use crate::rows;
 
-const SET: usize = 0;
-
-const ROOT: usize = 1;
-
-pub const SPARED: usize = 2;
-
-// Every row is a set of its own.
-pub fn alone() -> [[usize; 15]; 3] {
-    let mut sets = [[0usize; 15]; 3];
-    let mut k: usize = 0;
-    while k < 15 {
-        sets[SET][k] = k;
-        sets[ROOT][k] = k;
-        k += 1;
-    }
-    sets
+// Of each row: the set that it is in, the row that stands for the set of its number, that set's root, and
+// whether the row is spared.
+#[derive(Clone, Copy)]
+pub struct Sets {
+    set: [usize; 15],
+    root: [usize; 15],
+    pub spared: [bool; 15],
 }
 
-// The row that stands for the set of row i.
-pub fn root(sets: &[[usize; 15]; 3], i: usize) -> usize
-    requires { i < 15 }
-    ensures { result < 15 }
-{
-    let set = notes::row(sets[SET][i]);
-    notes::row(sets[ROOT][set])
-}
-
-pub fn spare(sets: &mut [[usize; 15]; 3], i: usize)
-    requires { i < 15 }
-{
-    sets[SPARED][i] = 1;
-}
-
-// The rows of one set go to another.
-fn join(sets: &mut [[usize; 15]; 3], from: usize, to: usize) {
-    let mut k: usize = 0;
-    while k < 15 {
-        if sets[SET][k] == from {
-            sets[SET][k] = to;
+impl Sets {
+    // Every row is a set of its own.
+    pub fn alone() -> Sets {
+        let mut own = [0usize; 15];
+        for k in 0..15 {
+            own[k] = k;
         }
-        k += 1;
+        Sets {
+            set: own,
+            root: own,
+            spared: [false; 15],
+        }
     }
-}
 
-// The sets of two roots are one; the second stands for it.
-pub fn tie(sets: &mut [[usize; 15]; 3], spared: usize, keeps: usize)
-    requires { (spared < 15) × (keeps < 15) }
-{
-    let from = sets[SET][spared];
-    let to = notes::row(sets[SET][keeps]);
-    join(sets, from, to);
-    sets[ROOT][to] = keeps;
-}
+    // The row that stands for the set of row i.
+    pub fn root(&self, i: usize) -> usize
+        requires { i < 15 }
+        ensures { result < 15 }
+    {
+        rows::row(self.root[rows::row(self.set[i])])
+    }
 
-// Row i takes the place of its set's root r, which is spared in its stead.
-pub fn swap(sets: &mut [[usize; 15]; 3], r: usize, i: usize)
-    requires { (r < 15) × (i < 15) }
-{
-    let set = notes::row(sets[SET][i]);
-    sets[SPARED][r] = 1;
-    sets[SPARED][i] = 0;
-    sets[ROOT][set] = i;
+    pub fn spare(&mut self, i: usize)
+        requires { i < 15 }
+    {
+        self.spared[i] = true;
+    }
+
+    // The sets of two roots are one; the second stands for it.
+    pub fn tie(&mut self, spared: usize, keeps: usize)
+        requires { (spared < 15) × (keeps < 15) }
+    {
+        let from = self.set[spared];
+        let to = rows::row(self.set[keeps]);
+        for k in 0..15 {
+            if self.set[k] == from {
+                self.set[k] = to;
+            }
+        }
+        self.root[to] = keeps;
+    }
+
+    // Row i takes the place of its set's root r, which is spared in its stead.
+    pub fn swap(&mut self, r: usize, i: usize)
+        requires { (r < 15) × (i < 15) }
+    {
+        let set = rows::row(self.set[i]);
+        self.spared[r] = true;
+        self.spared[i] = false;
+        self.root[set] = i;
+    }
 }

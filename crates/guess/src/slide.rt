@@ -10,6 +10,9 @@ use crate::{tangent, whole};
 use circuit::{board, branch};
 use units::voltage::Voltage;
 
+// How often the node is moved at most.
+const ROUNDS: u64 = 12;
+
 fn float_at(volts: &[i64; 16], i: usize) -> f64
     requires { i ≤ 15 }
 {
@@ -56,12 +59,10 @@ fn line(
     let after = board::start(board, node + 1);
     let mut slope = std::num::nearest_u64_to_f64(board::leak(board));
     let mut at_zero: f64 = 0.0;
-    let mut k = board::start(board, node);
-    while k < after {
+    for k in board::start(board, node)..after {
         let t = leaving(board, stretches, stored, volts, board::end(board, k));
-        slope = slope + t.slope;
-        at_zero = at_zero + t.at_zero;
-        k += 1;
+        slope += t.slope;
+        at_zero += t.at_zero;
     }
     Tangent { slope, at_zero }
 }
@@ -105,9 +106,7 @@ pub fn slide(
 {
     let mut t = line(board, stretches, stored, volts, node);
     let mut x: f64 = 0.0;
-    let mut changed = true;
-    let mut rounds: u64 = 0;
-    while changed && rounds < 12 {
+    for _ in 0..ROUNDS {
         x = crossing(t);
         if !place_node(board, x, node, volts) {
             return Ending::Broken;
@@ -116,12 +115,10 @@ pub fn slide(
             return Ending::Settled(left(t, x));
         }
         let next = line(board, stretches, stored, volts, node);
-        changed = (next.slope != t.slope) | (next.at_zero != t.at_zero);
+        if next == t {
+            return Ending::Settled(left(next, x));
+        }
         t = next;
-        rounds += 1;
     }
-    if changed {
-        return Ending::Spent(left(t, x));
-    }
-    Ending::Settled(left(t, x))
+    Ending::Spent(left(t, x))
 }

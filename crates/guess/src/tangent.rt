@@ -10,10 +10,18 @@ use network::kind;
 use stretch::{curve, stretches};
 
 // The current at the voltage v is slope × v + at_zero.
-#[derive(Clone, Copy)]
+#[derive(Clone, Copy, PartialEq)]
 pub struct Tangent {
     pub slope: f64,
     pub at_zero: f64,
+}
+
+impl Tangent {
+    // That of an element that carries no current.
+    pub const NONE: Tangent = Tangent {
+        slope: 0.0,
+        at_zero: 0.0,
+    };
 }
 
 // That of a curve of m breakpoints at v, its stretches from row `first` on.

@@ -12,589 +12,322 @@
 // current in that row; once a row is spared, every other column is changed so that it leaves the tie
 // as it is. Columns are kept as rows. Voltages here are what is added to whole microvolts, so a tie's
 // difference is a whole number too.
-//
-// `vectors` has three: how far each node has to go, which current is over in the spared rows, and the
-// sums of the columns. `sets` is told in sets.rt, `way` in way.rt.
-ghost use Rattle.std.specs.Prelude.{◌<◌, ◌≤◌};
+ghost use Rattle.std.specs.Prelude.{◌<◌, ◌≤◌, IfSome};
 
-use crate::{links, matrix, notes, sets, way, whole};
+use crate::choice::{self, Choice, Price, Tie};
+use crate::matrix::{self, Matrix, Vector};
+use crate::memory::Memory;
+use crate::rows::{self, Rows};
+use crate::sets::Sets;
+use crate::way::{self, Step};
+use crate::{links, whole};
 
-pub const AT: usize = 0;
-
-pub const OVER: usize = 1;
-
-const SUMS: usize = 2;
+// The columns as the ties have changed them, and their sums; how far each node has to go, which current is
+// over in the spared rows, and which rows are tied.
+#[derive(Clone, Copy)]
+pub struct Ties {
+    columns: Matrix,
+    sums: Vector,
+    pub at: Vector,
+    over: Vector,
+    pub sets: Sets,
+}
 
 // Whether the ties go the remembered way, or have left it and note where they go, or can't be noted any
 // more: a strained row was relieved.
-const FOLLOWS: usize = 0;
-
-const NOTES: usize = 1;
-
-const LEFT: usize = 2;
+#[derive(Clone, Copy, PartialEq, Eq)]
+enum State {
+    Follows,
+    Notes,
+    Left,
+}
 
 // How often a strained row may take its root's place.
 const SWAPS: usize = 16;
 
-// All nodes sink by `by` times u, which takes as much of y off the rows' currents; those in force stay
-// balanced.
-pub fn sink(
-    vectors: &mut [[f64; 15]; 3],
-    sets: &[[usize; 15]; 3],
-    u: &[f64; 15],
-    y: &[f64; 15],
-    by: f64,
-) {
-    let mut k: usize = 0;
-    while k < 15 {
-        let over = vectors[OVER][k] - by * y[k];
-        vectors[AT][k] = vectors[AT][k] - by * u[k];
-        vectors[OVER][k] = if sets[sets::SPARED][k] == 0 {
-            0.0
-        } else {
-            over
+impl Ties {
+    // All nodes sink by `by` times u, which takes as much of y off the rows' currents; those in force stay
+    // balanced.
+    pub fn sink(&mut self, u: &Vector, y: &Vector, by: f64) {
+        for k in 0..15 {
+            let over = self.over[k] - by * y[k];
+            self.at[k] -= by * u[k];
+            self.over[k] = if self.sets.spared[k] { over } else { 0.0 };
+        }
+    }
+
+    // Column c takes f times u, whose sum is given, off itself.
+    fn turn(&mut self, c: usize, u: &Vector, sum: f64, f: f64)
+        requires { c < 15 }
+    {
+        matrix::add(u, -f, &mut self.columns[c]);
+        self.sums[c] -= f * sum;
+    }
+
+    // Every column in force changed so that it leaves the difference of two rows as it is.
+    fn level(&mut self, u: &Vector, spared: usize, keeps: usize, rows: Rows)
+        requires { (spared < 15) × (keeps < 15) }
+    {
+        let sum = self.sums[spared];
+        let inverse = 1.0 / (u[spared] - u[keeps]);
+        for c in rows.first..rows.end {
+            if !self.sets.spared[c] {
+                let f = (self.columns[c][spared] - self.columns[c][keeps]) * inverse;
+                self.turn(c, u, sum, f);
+            }
+        }
+    }
+
+    // A root is tied to another, and their sets are one. y is what that makes of the rows' currents.
+    fn tie(&mut self, tie: Tie, y: &Vector, rows: Rows) {
+        let u = self.columns[tie.spared];
+        self.sets.spare(tie.spared);
+        self.sink(&u, y, tie.by);
+        self.level(&u, tie.spared, tie.keeps, rows);
+        self.sets.tie(tie.spared, tie.keeps);
+    }
+
+    // Whether row k has less to spare than nothing, if it is spared and gives `by` times y.
+    fn strains(&self, m: &Matrix, y: &Vector, by: f64, k: usize) -> bool
+        requires { k < 15 }
+    {
+        self.sets.spared[k] && m[k][k] * whole::ROUNDED < self.over[k] - by * y[k]
+    }
+
+    // The first row that does.
+    pub fn strained(&self, m: &Matrix, y: &Vector, by: f64, rows: Rows) -> Option<usize>
+        ensures { IfSome result (λ k. k < 15) }
+    {
+        for k in rows.first..rows.end {
+            if self.strains(m, y, by, k) {
+                return Some(k);
+            }
+        }
+        None
+    }
+
+    // What a column has in common with a row of the matrix: the current in that row.
+    fn current(&self, m: &Matrix, i: usize, c: usize, rows: Rows) -> f64
+        requires { (i < 15) × (c < 15) }
+    {
+        let mut sum: f64 = 0.0;
+        for k in rows.first..rows.end {
+            sum += m[i][k] * self.columns[c][k];
+        }
+        sum
+    }
+
+    // Every column in force changed so that it leaves row i's current as it is.
+    fn balance(&mut self, m: &Matrix, u: &Vector, sum: f64, i: usize, inverse: f64, rows: Rows)
+        requires { i < 15 }
+    {
+        for c in rows.first..rows.end {
+            if !self.sets.spared[c] && c != i {
+                let f = self.current(m, i, c, rows) * inverse;
+                self.turn(c, u, sum, f);
+            }
+        }
+    }
+
+    // Row i, which is strained, takes the place of its set's root r, whose column makes the currents y.
+    fn take_place(&mut self, m: &Matrix, y: &Vector, r: usize, i: usize, rows: Rows)
+        requires { (r < 15) × (i < 15) }
+    {
+        let u = self.columns[r];
+        let inverse = 1.0 / y[i];
+        let by = self.over[i] * inverse;
+        let sum = self.sums[r];
+        self.sets.swap(r, i);
+        self.over[r] = 0.0;
+        self.sink(&u, y, by);
+        self.balance(m, &u, sum, i, inverse, rows);
+        self.columns[i] = [0.0f64; 15];
+        matrix::add(&u, inverse, &mut self.columns[i]);
+        self.sums[i] = sum * inverse;
+    }
+
+    // As long as a row is strained, and often enough.
+    fn relieve(&mut self, m: &Matrix, rows: Rows) {
+        for _ in 0..SWAPS {
+            let Some(i) = self.strained(m, &[0.0f64; 15], 0.0, rows) else {
+                return;
+            };
+            let r = self.sets.root(i);
+            let y = matrix::times(m, &self.columns[r], rows);
+            if !(0.0 < y[i]) {
+                return;
+            }
+            self.take_place(m, &y, r, i, rows);
+        }
+    }
+
+    // How high all nodes stand together.
+    fn height(&self, rows: Rows) -> f64 {
+        let mut sum: f64 = 0.0;
+        for k in rows.first..rows.end {
+            sum += self.at[k];
+        }
+        sum
+    }
+
+    // A root is tied to another, and then strained rows are relieved.
+    fn tie_strained(&mut self, m: &Matrix, tie: Tie, rows: Rows) {
+        let y = matrix::times(m, &self.columns[tie.spared], rows);
+        self.tie(tie, &y, rows);
+        self.relieve(m, rows);
+    }
+
+    // Two ways, the first of which strains a row. The higher one is taken.
+    fn higher(&mut self, m: &Matrix, choice: Choice, rows: Rows) {
+        let mut other = *self;
+        let before = self.height(rows);
+        self.tie_strained(m, choice.tie, rows);
+        if before - self.height(rows) <= choice.loss {
+            return;
+        }
+        other.tie_strained(m, choice.other, rows);
+        if self.height(rows) < other.height(rows) {
+            *self = other;
+        }
+    }
+
+    // The way that costs less is taken, unless it strains a row. Whether it can be noted.
+    fn cheaper(&mut self, m: &Matrix, y: &Vector, choice: Choice, rows: Rows) -> bool {
+        if self.strained(m, y, choice.tie.by, rows).is_some() {
+            self.higher(m, choice, rows);
+            return false;
+        }
+        self.tie(choice.tie, y, rows);
+        true
+    }
+
+    // Two roots are tied, at link k, and that is noted, if all before it were.
+    fn tie_roots(
+        &mut self,
+        memory: &mut Memory,
+        k: usize,
+        state: State,
+        r: usize,
+        s: usize,
+        rows: Rows,
+    ) -> State
+        requires { (k < 15) × (r < 15) × (s < 15) }
+    {
+        let at_r = self.columns[r][r] - self.columns[r][s];
+        let at_s = self.columns[s][s] - self.columns[s][r];
+        if !(0.0 < at_r && 0.0 < at_s) {
+            return State::Left;
+        }
+        let price_one = Price {
+            current: 1.0 / at_r,
+            sum: self.sums[r],
         };
-        k += 1;
-    }
-}
-
-// Column c takes f times u, whose sum is given, off itself.
-fn turn(
-    columns: &mut [[f64; 15]; 15],
-    vectors: &mut [[f64; 15]; 3],
-    c: usize,
-    u: &[f64; 15],
-    sum: f64,
-    f: f64,
-)
-    requires { c < 15 }
-{
-    matrix::add_to_row(u, -f, columns, c);
-    vectors[SUMS][c] = vectors[SUMS][c] - f * sum;
-}
-
-// Every column in force changed so that it leaves the difference of two rows as it is.
-fn level(
-    columns: &mut [[f64; 15]; 15],
-    vectors: &mut [[f64; 15]; 3],
-    sets: &[[usize; 15]; 3],
-    u: &[f64; 15],
-    spared: usize,
-    keeps: usize,
-    first: usize,
-    end: usize,
-)
-    requires { (spared < 15) × (keeps < 15) × (end ≤ 15) }
-{
-    let sum = vectors[SUMS][spared];
-    let inverse = 1.0 / (u[spared] - u[keeps]);
-    let mut c = first;
-    while c < end {
-        if sets[sets::SPARED][c] == 0 {
-            let f = (columns[c][spared] - columns[c][keeps]) * inverse;
-            turn(columns, vectors, c, u, sum, f);
+        let price_other = Price {
+            current: 1.0 / at_s,
+            sum: self.sums[s],
+        };
+        let below = whole::fraction(self.at[r] - self.at[s]);
+        let choice = choice::cheaper(r, s, price_one, price_other, below);
+        let answers = self.columns[choice.tie.spared];
+        let currents = matrix::times(&memory.slopes, &answers, rows);
+        let noted = self.cheaper(&memory.slopes, &currents, choice, rows);
+        if state == State::Notes {
+            memory.way[k] = Step {
+                spared: choice.tie.spared,
+                keeps: choice.tie.keeps,
+                answers,
+                currents,
+                price_one,
+                price_other,
+            };
+            memory.remembered = if noted { k + 1 } else { k };
         }
-        c += 1;
+        if noted { state } else { State::Left }
     }
-}
 
-// A root is spared, which takes `by` of its current: it is tied to another, and their sets are one. y is
-// what that makes of the rows' currents.
-fn tie(
-    columns: &mut [[f64; 15]; 15],
-    vectors: &mut [[f64; 15]; 3],
-    sets: &mut [[usize; 15]; 3],
-    y: &[f64; 15],
-    spared: usize,
-    keeps: usize,
-    by: f64,
-    first: usize,
-    end: usize,
-)
-    requires { (spared < 15) × (keeps < 15) × (end ≤ 15) }
-{
-    let u = columns[spared];
-    sets::spare(sets, spared);
-    sink(vectors, sets, &u, y, by);
-    level(columns, vectors, sets, &u, spared, keeps, first, end);
-    sets::tie(sets, spared, keeps);
-}
-
-// Whether row k has less to spare than nothing, if it is spared and gives `by` times y.
-fn strains(
-    m: &[[f64; 15]; 15],
-    vectors: &[[f64; 15]; 3],
-    sets: &[[usize; 15]; 3],
-    y: &[f64; 15],
-    by: f64,
-    k: usize,
-) -> bool
-    requires { k < 15 }
-{
-    if sets[sets::SPARED][k] == 0 {
-        return false;
-    }
-    m[k][k] * whole::ROUNDED < vectors[OVER][k] - by * y[k]
-}
-
-// The first row that does, 15 for none.
-pub fn strained(
-    m: &[[f64; 15]; 15],
-    vectors: &[[f64; 15]; 3],
-    sets: &[[usize; 15]; 3],
-    y: &[f64; 15],
-    by: f64,
-    first: usize,
-    end: usize,
-) -> usize
-    requires { end ≤ 15 }
-{
-    let mut k = first;
-    while k < end {
-        if strains(m, vectors, sets, y, by, k) {
-            return k;
+    // The columns and their sums as they are after the first n links of the remembered way.
+    fn rebuild(&mut self, memory: &Memory, n: usize, rows: Rows)
+        requires { n ≤ 15 }
+    {
+        let sets = self.sets;
+        self.sets = Sets::alone();
+        self.columns = memory.inverse;
+        self.sums = matrix::times(&memory.inverse, &[1.0f64; 15], rows);
+        for k in 0..n {
+            let step = &memory.way[k];
+            let spared = rows::row(step.spared);
+            self.sets.spare(spared);
+            self.level(&step.answers, spared, rows::row(step.keeps), rows);
         }
-        k += 1;
+        self.sets = sets;
     }
-    15
-}
 
-// What a column has in common with a row of the matrix: the current in that row.
-fn current(
-    m: &[[f64; 15]; 15],
-    i: usize,
-    columns: &[[f64; 15]; 15],
-    c: usize,
-    first: usize,
-    end: usize,
-) -> f64
-    requires { (i < 15) × (c < 15) × (end ≤ 15) }
-{
-    let mut sum: f64 = 0.0;
-    let mut k = first;
-    while k < end {
-        sum = sum + m[i][k] * columns[c][k];
-        k += 1;
-    }
-    sum
-}
-
-// Every column in force changed so that it leaves row i's current as it is.
-fn balance(
-    m: &[[f64; 15]; 15],
-    columns: &mut [[f64; 15]; 15],
-    vectors: &mut [[f64; 15]; 3],
-    sets: &[[usize; 15]; 3],
-    u: &[f64; 15],
-    sum: f64,
-    i: usize,
-    inverse: f64,
-    first: usize,
-    end: usize,
-)
-    requires { (i < 15) × (end ≤ 15) }
-{
-    let mut c = first;
-    while c < end {
-        if sets[sets::SPARED][c] == 0 && c != i {
-            let f = current(m, i, columns, c, first, end) * inverse;
-            turn(columns, vectors, c, u, sum, f);
+    // Link k is tied.
+    fn tie_link(&mut self, memory: &mut Memory, k: usize, state: State, rows: Rows) -> State
+        requires { k < 14 }
+    {
+        let (one, other) = memory.links[k];
+        let r = self.sets.root(rows::row(one));
+        let s = self.sets.root(rows::row(other));
+        if state != State::Follows {
+            return self.tie_roots(memory, k, state, r, s, rows);
         }
-        c += 1;
-    }
-}
-
-// Row i, which is strained, takes the place of its set's root r, whose column is u with the currents y.
-fn take_place(
-    m: &[[f64; 15]; 15],
-    columns: &mut [[f64; 15]; 15],
-    vectors: &mut [[f64; 15]; 3],
-    sets: &mut [[usize; 15]; 3],
-    y: &[f64; 15],
-    r: usize,
-    i: usize,
-    first: usize,
-    end: usize,
-)
-    requires { (r < 15) × (i < 15) × (end ≤ 15) }
-{
-    let u = columns[r];
-    let inverse = 1.0 / y[i];
-    let by = vectors[OVER][i] * inverse;
-    let sum = vectors[SUMS][r];
-    sets::swap(sets, r, i);
-    vectors[OVER][r] = 0.0;
-    sink(vectors, sets, &u, y, by);
-    balance(m, columns, vectors, sets, &u, sum, i, inverse, first, end);
-    columns[i] = [0.0f64; 15];
-    matrix::add_to_row(&u, inverse, columns, i);
-    vectors[SUMS][i] = sum * inverse;
-}
-
-// As long as a row is strained, and often enough.
-fn relieve(
-    m: &[[f64; 15]; 15],
-    columns: &mut [[f64; 15]; 15],
-    vectors: &mut [[f64; 15]; 3],
-    sets: &mut [[usize; 15]; 3],
-    first: usize,
-    end: usize,
-)
-    requires { end ≤ 15 }
-{
-    let none = [0.0f64; 15];
-    let mut swap: usize = 0;
-    while swap < SWAPS {
-        let i = strained(m, vectors, sets, &none, 0.0, first, end);
-        if 15 <= i {
-            return;
+        if k < memory.remembered && way::follow(memory, self, k, r, s, rows) {
+            return State::Follows;
         }
-        let r = sets::root(sets, i);
-        let y = matrix::times(m, &columns[r], first, end);
-        if !(0.0 < y[i]) {
-            return;
+        self.rebuild(memory, k, rows);
+        self.tie_roots(memory, k, State::Notes, r, s, rows)
+    }
+
+    // A root is cut downward, and the others of its set follow by their ties.
+    fn landed(&self, rows: Rows) -> Vector {
+        let mut whole = [0.0f64; 15];
+        for k in rows.first..rows.end {
+            let at = self.at[self.sets.root(k)];
+            whole[k] = whole::floor(at) + whole::nearest(self.at[k] - at);
         }
-        take_place(m, columns, vectors, sets, &y, r, i, first, end);
-        swap += 1;
+        whole
     }
 }
 
-// How high all nodes stand together.
-fn height(vectors: &[[f64; 15]; 3], first: usize, end: usize) -> f64
-    requires { end ≤ 15 }
+// How many stiff links there are; they are noted, once for a matrix.
+fn known_links(memory: &mut Memory, rows: Rows) -> usize
+    ensures { result ≤ 14 }
 {
-    let mut sum: f64 = 0.0;
-    let mut k = first;
-    while k < end {
-        sum = sum + vectors[AT][k];
-        k += 1;
+    if let Some(n) = memory.link_count {
+        return n.min(14);
     }
-    sum
-}
-
-// A root is spared and tied to another, and then strained rows are relieved.
-fn tie_strained(
-    m: &[[f64; 15]; 15],
-    columns: &mut [[f64; 15]; 15],
-    vectors: &mut [[f64; 15]; 3],
-    sets: &mut [[usize; 15]; 3],
-    spared: usize,
-    keeps: usize,
-    by: f64,
-    first: usize,
-    end: usize,
-)
-    requires { (spared < 15) × (keeps < 15) × (end ≤ 15) }
-{
-    let y = matrix::times(m, &columns[spared], first, end);
-    tie(columns, vectors, sets, &y, spared, keeps, by, first, end);
-    relieve(m, columns, vectors, sets, first, end);
-}
-
-// Two ways, the first of which strains a row: r is spared by `by`, or s by `or_by`, which alone would cost
-// `loss`. The higher one is taken.
-fn higher(
-    m: &[[f64; 15]; 15],
-    columns: &mut [[f64; 15]; 15],
-    vectors: &mut [[f64; 15]; 3],
-    sets: &mut [[usize; 15]; 3],
-    r: usize,
-    s: usize,
-    by: f64,
-    or_by: f64,
-    loss: f64,
-    first: usize,
-    end: usize,
-)
-    requires { (r < 15) × (s < 15) × (end ≤ 15) }
-{
-    let mut other_columns = *columns;
-    let mut other_vectors = *vectors;
-    let mut other_sets = *sets;
-    let before = height(vectors, first, end);
-    tie_strained(m, columns, vectors, sets, r, s, by, first, end);
-    if before - height(vectors, first, end) <= loss {
-        return;
-    }
-    tie_strained(
-        m,
-        &mut other_columns,
-        &mut other_vectors,
-        &mut other_sets,
-        s,
-        r,
-        or_by,
-        first,
-        end,
-    );
-    if height(vectors, first, end) < height(&other_vectors, first, end) {
-        *columns = other_columns;
-        *vectors = other_vectors;
-        *sets = other_sets;
-    }
-}
-
-// The way that costs less is taken, r being spared, unless it strains a row. Whether it can be noted.
-fn cheaper(
-    m: &[[f64; 15]; 15],
-    columns: &mut [[f64; 15]; 15],
-    vectors: &mut [[f64; 15]; 3],
-    sets: &mut [[usize; 15]; 3],
-    y: &[f64; 15],
-    r: usize,
-    s: usize,
-    by: f64,
-    or_by: f64,
-    loss: f64,
-    first: usize,
-    end: usize,
-) -> bool
-    requires { (r < 15) × (s < 15) × (end ≤ 15) }
-{
-    if strained(m, vectors, sets, y, by, first, end) < 15 {
-        higher(m, columns, vectors, sets, r, s, by, or_by, loss, first, end);
-        return false;
-    }
-    tie(columns, vectors, sets, y, r, s, by, first, end);
-    true
-}
-
-// .. and is noted, if all before it were: `costs` are those of way.rt.
-fn noted(
-    m: &[[f64; 15]; 15],
-    notes: &mut [usize; 96],
-    way: &mut [[f64; 15]; 34],
-    columns: &mut [[f64; 15]; 15],
-    vectors: &mut [[f64; 15]; 3],
-    sets: &mut [[usize; 15]; 3],
-    k: usize,
-    state: usize,
-    r: usize,
-    s: usize,
-    by: f64,
-    or_by: f64,
-    loss: f64,
-    costs: [f64; 4],
-    first: usize,
-    end: usize,
-) -> usize
-    requires { (k < 15) × (r < 15) × (s < 15) × (end ≤ 15) }
-{
-    let u = columns[r];
-    let y = matrix::times(m, &u, first, end);
-    if state == NOTES {
-        way::note(way, notes, k, r, s, u, y, costs);
-    }
-    if cheaper(
-        m, columns, vectors, sets, &y, r, s, by, or_by, loss, first, end,
-    ) {
-        return state;
-    }
-    if state == NOTES {
-        notes::set_remembered(k, notes);
-    }
-    LEFT
-}
-
-// Two roots are tied, by the whole number below their difference, which spares the first, or by the one
-// above, which spares the second.
-fn tie_roots(
-    m: &[[f64; 15]; 15],
-    notes: &mut [usize; 96],
-    way: &mut [[f64; 15]; 34],
-    columns: &mut [[f64; 15]; 15],
-    vectors: &mut [[f64; 15]; 3],
-    sets: &mut [[usize; 15]; 3],
-    k: usize,
-    state: usize,
-    r: usize,
-    s: usize,
-    first: usize,
-    end: usize,
-) -> usize
-    requires { (k < 15) × (r < 15) × (s < 15) × (end ≤ 15) }
-{
-    let at_r = columns[r][r] - columns[r][s];
-    let at_s = columns[s][s] - columns[s][r];
-    if !(0.0 < at_r && 0.0 < at_s) {
-        return LEFT;
-    }
-    let per_r = 1.0 / at_r;
-    let per_s = 1.0 / at_s;
-    let sum_r = vectors[SUMS][r];
-    let sum_s = vectors[SUMS][s];
-    let below = whole::fraction(vectors[AT][r] - vectors[AT][s]);
-    let by_r = below * per_r;
-    let by_s = (1.0 - below) * per_s;
-    let loss_r = by_r * sum_r;
-    let loss_s = by_s * sum_s;
-    let costs = [per_r, per_s, sum_r, sum_s];
-    if loss_s < loss_r {
-        return noted(
-            m, notes, way, columns, vectors, sets, k, state, s, r, by_s, by_r, loss_r, costs,
-            first, end,
-        );
-    }
-    noted(
-        m, notes, way, columns, vectors, sets, k, state, r, s, by_r, by_s, loss_s, costs, first,
-        end,
-    )
-}
-
-// The columns and their sums as they are after the first n links of the remembered way.
-fn rebuild(
-    inverse: &[[f64; 15]; 15],
-    notes: &[usize; 96],
-    way: &[[f64; 15]; 34],
-    columns: &mut [[f64; 15]; 15],
-    vectors: &mut [[f64; 15]; 3],
-    n: usize,
-    first: usize,
-    end: usize,
-)
-    requires { (n ≤ 15) × (end ≤ 15) }
-{
-    let mut marks = sets::alone();
-    let mut k: usize = 0;
-    *columns = *inverse;
-    let sums = matrix::times(inverse, &[1.0f64; 15], first, end);
-    vectors[SUMS] = sums;
-    while k < n {
-        let spared = notes::spared(notes, k);
-        sets::spare(&mut marks, spared);
-        level(
-            columns,
-            vectors,
-            &marks,
-            &way[k],
-            spared,
-            notes::keeps(notes, k),
-            first,
-            end,
-        );
-        k += 1;
-    }
-}
-
-// Link k is tied.
-fn tie_link(
-    m: &[[f64; 15]; 15],
-    inverse: &[[f64; 15]; 15],
-    notes: &mut [usize; 96],
-    way: &mut [[f64; 15]; 34],
-    columns: &mut [[f64; 15]; 15],
-    vectors: &mut [[f64; 15]; 3],
-    sets: &mut [[usize; 15]; 3],
-    k: usize,
-    state: usize,
-    first: usize,
-    end: usize,
-) -> usize
-    requires { (k < 15) × (end ≤ 15) }
-{
-    let r = sets::root(sets, notes::one(notes, k));
-    let s = sets::root(sets, notes::other(notes, k));
-    if state != FOLLOWS {
-        return tie_roots(
-            m, notes, way, columns, vectors, sets, k, state, r, s, first, end,
-        );
-    }
-    if k < notes::remembered(notes) {
-        if way::follow(m, notes, way, vectors, sets, k, r, s, first, end) {
-            return FOLLOWS;
-        }
-    }
-    rebuild(inverse, notes, way, columns, vectors, k, first, end);
-    tie_roots(
-        m, notes, way, columns, vectors, sets, k, NOTES, r, s, first, end,
-    )
-}
-
-// Link after link.
-fn tie_all(
-    m: &[[f64; 15]; 15],
-    inverse: &[[f64; 15]; 15],
-    notes: &mut [usize; 96],
-    way: &mut [[f64; 15]; 34],
-    vectors: &mut [[f64; 15]; 3],
-    sets: &mut [[usize; 15]; 3],
-    first: usize,
-    end: usize,
-)
-    requires { end ≤ 15 }
-{
-    let links = notes::links(notes);
-    let mut columns = [[0.0f64; 15]; 15];
-    let mut state = FOLLOWS;
-    let mut k: usize = 0;
-    while k < links {
-        state = tie_link(
-            m,
-            inverse,
-            notes,
-            way,
-            &mut columns,
-            vectors,
-            sets,
-            k,
-            state,
-            first,
-            end,
-        );
-        k += 1;
-    }
-}
-
-// A root is cut downward, and the others of its set follow by their ties.
-fn landed(vectors: &[[f64; 15]; 3], sets: &[[usize; 15]; 3], first: usize, end: usize) -> [f64; 15]
-    requires { end ≤ 15 }
-{
-    let mut whole = [0.0f64; 15];
-    let mut k = first;
-    while k < end {
-        let r = sets::root(sets, k);
-        let at = vectors[AT][r];
-        whole[k] = whole::floor(at) + whole::nearest(vectors[AT][k] - at);
-        k += 1;
-    }
-    whole
+    let n = links::order(&memory.slopes, rows, &mut memory.links);
+    memory.link_count = Some(n);
+    n
 }
 
 // Every node cut downward.
-fn floors(x: [f64; 15], first: usize, end: usize) -> [f64; 15]
-    requires { end ≤ 15 }
-{
+fn floors(x: Vector, rows: Rows) -> Vector {
     let mut whole = x;
-    let mut k = first;
-    while k < end {
+    for k in rows.first..rows.end {
         whole[k] = whole::floor(x[k]);
-        k += 1;
     }
     whole
 }
 
-// How far the nodes that have to go by x best go in whole numbers. The links are noted, once for a matrix,
-// and the way that the ties went.
-pub fn cut(
-    m: &[[f64; 15]; 15],
-    inverse: &[[f64; 15]; 15],
-    x: [f64; 15],
-    first: usize,
-    end: usize,
-    notes: &mut [usize; 96],
-    way: &mut [[f64; 15]; 34],
-) -> [f64; 15]
-    requires { end ≤ 15 }
-{
-    if !notes::links_known(notes) {
-        links::order(m, first, end, notes);
+// How far the nodes that have to go by x best go in whole numbers. The links are noted, and the way that
+// the ties went.
+pub fn cut(memory: &mut Memory, x: Vector, rows: Rows) -> Vector {
+    let links = known_links(memory, rows);
+    if links == 0 {
+        return floors(x, rows);
     }
-    if notes::links(notes) == 0 {
-        return floors(x, first, end);
+    let mut ties = Ties {
+        columns: [[0.0f64; 15]; 15],
+        sums: [0.0f64; 15],
+        at: x,
+        over: [0.0f64; 15],
+        sets: Sets::alone(),
+    };
+    let mut state = State::Follows;
+    for k in 0..links {
+        state = ties.tie_link(memory, k, state, rows);
     }
-    let none = [0.0f64; 15];
-    let mut vectors = [x, none, none];
-    let mut sets = sets::alone();
-    tie_all(m, inverse, notes, way, &mut vectors, &mut sets, first, end);
-    landed(&vectors, &sets, first, end)
+    ties.landed(rows)
 }

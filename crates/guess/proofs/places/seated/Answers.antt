@@ -7,4 +7,4 @@ pub loop-i-preserved : goal.loop-i-preserved
 loop-i-preserved c =
     let l = c.loop-i in
     let e : to_z w64 (of_z w64 c.clamped.result) ≡ c.clamped.result = search rules in
-    (omega arith, l.invariant.1, l.invariant.2, standing_more l.at l.i _ (omega arith) l.invariant.3 (rw (e ∙ c.clamped.ensures) (clamped_ranged _)))
+    standing_more l.at l.i _ (omega arith) l.invariant (rw (e ∙ c.clamped.ensures) (clamped_ranged _))
