@@ -1,5 +1,5 @@
 -- An f64 that is rounded to a voltage is in range. Assumes nothing.
-use Rattle.std.proofs.Common.{Option, Some, None, ◌≡◌, ℕ, ◌*◌, Bool, true, false, cond, ℤ, nat_abs, refl, arith, leb-true}
+use Rattle.std.proofs.Common.{Some, None, ◌≡◌, ℕ, ◌*◌, Bool, true, false, cond, ℤ, nat_abs, refl, arith, leb-true}
 use lib.Ieee.{Float, nan, inf, fin, up, down}
 use Rattle.units.specs.Voltage.{within, voltage_limit, InRange}
 use Rattle.units.specs.Ratio.{nearest_ratio}

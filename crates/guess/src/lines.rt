@@ -9,7 +9,7 @@ use crate::memory::Memory;
 use crate::rows::Rows;
 use crate::tangent::{self, Tangent};
 use crate::whole;
-use circuit::{board, branch};
+use circuit::Circuit;
 use network::kind;
 use units::voltage::Voltage;
 
@@ -17,12 +17,12 @@ use units::voltage::Voltage;
 const UPDATES: usize = 8;
 
 // The matrix of the leaks alone.
-fn leaks(board: &[u64; 293]) -> Matrix
-    requires { nodes_on board.now ≤ 15 }
+fn leaks(circuit: &Circuit) -> Matrix
+    requires { nodes_on circuit.now.board ≤ 15 }
 {
-    let leak = std::num::nearest_u64_to_f64(board::leak(board));
+    let leak = std::num::nearest_u64_to_f64(circuit.leak());
     let mut m = [[0.0f64; 15]; 15];
-    for k in 0..board::nodes(board) {
+    for k in 0..circuit.nodes() {
         m[k][k] = leak;
     }
     m
@@ -30,23 +30,17 @@ fn leaks(board: &[u64; 293]) -> Matrix
 
 // All tangents at these voltages, and the matrix of their slopes.
 fn drawn(
-    board: &[u64; 293],
-    stretches: &[i64; 408],
+    circuit: &Circuit,
     stored: &[i64; 32],
     volts: &[i64; 16],
     lines: &mut [Tangent; 32],
 ) -> Matrix
-    requires { Evaluable board.now stretches.now stored.now volts.now }
+    requires { Evaluable circuit.now.board circuit.now.stretches stored.now volts.now }
 {
-    let mut m = leaks(board);
-    for j in 0..board::count(board) {
-        let t = tangent::of_element(board, stretches, stored, volts, j);
-        matrix::join(
-            &mut m,
-            board::end_p(board, j),
-            board::end_q(board, j),
-            t.slope,
-        );
+    let mut m = leaks(circuit);
+    for j in 0..circuit.count() {
+        let t = tangent::of_element(circuit, stored, volts, j);
+        matrix::join(&mut m, circuit.end_p(j), circuit.end_q(j), t.slope);
         lines[j] = t;
     }
     m
@@ -54,28 +48,27 @@ fn drawn(
 
 // Everything from nothing.
 fn anew(
-    board: &[u64; 293],
-    stretches: &[i64; 408],
+    circuit: &Circuit,
     stored: &[i64; 32],
     volts: &[i64; 16],
     memory: &mut Memory,
 ) -> Result<(), Singular>
-    requires { Evaluable board.now stretches.now stored.now volts.now }
+    requires { Evaluable circuit.now.board circuit.now.stretches stored.now volts.now }
 {
-    memory.slopes = drawn(board, stretches, stored, volts, &mut memory.lines);
+    memory.slopes = drawn(circuit, stored, volts, &mut memory.lines);
     memory.lost();
-    memory.inverse = matrix::inverse(&memory.slopes, Rows::free(board))?;
+    memory.inverse = matrix::inverse(&memory.slopes, Rows::free(circuit))?;
     memory.made();
     Ok(())
 }
 
 // Notes which elements have curves.
-pub fn note_curves(board: &[u64; 293], memory: &mut Memory)
-    requires { count_on board.now ≤ 32 }
+pub fn note_curves(circuit: &Circuit, memory: &mut Memory)
+    requires { count_on circuit.now.board ≤ 32 }
 {
     let mut n: usize = 0;
-    for j in 0..board::count(board) {
-        if kind::has_curve(board::kind(board, j)) {
+    for j in 0..circuit.count() {
+        if kind::has_curve(circuit.kind(j)) {
             memory.curves[n] = j;
             n += 1;
         }
@@ -84,119 +77,100 @@ pub fn note_curves(board: &[u64; 293], memory: &mut Memory)
 }
 
 // The tangent of element j at these voltages, if it has a curve; else what is kept of it.
-fn present(
-    board: &[u64; 293],
-    stretches: &[i64; 408],
-    volts: &[i64; 16],
-    lines: &[Tangent; 32],
-    j: usize,
-) -> Tangent
-    requires { Laid board.now stretches.now × Ranged board.now volts.now × (j < count_on board.now) }
+fn present(circuit: &Circuit, volts: &[i64; 16], lines: &[Tangent; 32], j: usize) -> Tangent
+    requires { Laid circuit.now.board circuit.now.stretches × Ranged circuit.now.board volts.now × (j < count_on circuit.now.board) }
 {
-    if kind::has_curve(board::kind(board, j)) {
-        return tangent::of_curve(board, stretches, volts, j);
+    if kind::has_curve(circuit.kind(j)) {
+        return tangent::of_curve(circuit, volts, j);
     }
     lines[j]
 }
 
 // Whether element j is on another line than is kept of it.
-fn strays(
-    board: &[u64; 293],
-    stretches: &[i64; 408],
-    volts: &[i64; 16],
-    lines: &[Tangent; 32],
-    j: usize,
-) -> bool
-    requires { Laid board.now stretches.now × Ranged board.now volts.now }
+fn strays(circuit: &Circuit, volts: &[i64; 16], lines: &[Tangent; 32], j: usize) -> bool
+    requires { Laid circuit.now.board circuit.now.stretches × Ranged circuit.now.board volts.now }
 {
-    j < board::count(board) && present(board, stretches, volts, lines, j) != lines[j]
+    j < circuit.count() && present(circuit, volts, lines, j) != lines[j]
 }
 
 // How many of the curves do.
-fn strayed(board: &[u64; 293], stretches: &[i64; 408], volts: &[i64; 16], memory: &Memory) -> usize
-    requires { Laid board.now stretches.now × Ranged board.now volts.now }
+fn strayed(circuit: &Circuit, volts: &[i64; 16], memory: &Memory) -> usize
+    requires { Laid circuit.now.board circuit.now.stretches × Ranged circuit.now.board volts.now }
 {
     memory
         .curves()
         .iter()
-        .filter(|j| strays(board, stretches, volts, &memory.lines, **j))
+        .filter(|j| strays(circuit, volts, &memory.lines, **j))
         .count()
 }
 
 // Element j takes its line at these voltages, in the matrix and in the inverse, unless the inverse can't
 // follow.
 fn retake(
-    board: &[u64; 293],
-    stretches: &[i64; 408],
+    circuit: &Circuit,
     volts: &[i64; 16],
     j: usize,
     memory: &mut Memory,
 ) -> Result<(), Singular>
-    requires { Laid board.now stretches.now × Ranged board.now volts.now }
+    requires { Laid circuit.now.board circuit.now.stretches × Ranged circuit.now.board volts.now }
 {
-    if board::count(board) <= j {
+    if circuit.count() <= j {
         return Ok(());
     }
-    let t = present(board, stretches, volts, &memory.lines, j);
+    let t = present(circuit, volts, &memory.lines, j);
     let more = t.slope - memory.lines[j].slope;
     memory.lines[j] = t;
     if more == 0.0 {
         return Ok(());
     }
-    let p = board::end_p(board, j);
-    let q = board::end_q(board, j);
+    let p = circuit.end_p(j);
+    let q = circuit.end_q(j);
     matrix::join(&mut memory.slopes, p, q, more);
     memory.updated();
-    matrix::update(&mut memory.inverse, p, q, more, Rows::free(board))
+    matrix::update(&mut memory.inverse, p, q, more, Rows::free(circuit))
 }
 
 // .. so every curve.
-fn retaken(
-    board: &[u64; 293],
-    stretches: &[i64; 408],
-    volts: &[i64; 16],
-    memory: &mut Memory,
-) -> Result<(), Singular>
-    requires { Laid board.now stretches.now × Ranged board.now volts.now }
+fn retaken(circuit: &Circuit, volts: &[i64; 16], memory: &mut Memory) -> Result<(), Singular>
+    requires { Laid circuit.now.board circuit.now.stretches × Ranged circuit.now.board volts.now }
 {
     for k in 0..memory.curves().len() {
         let j = memory.curves[k];
-        retake(board, stretches, volts, j, memory)?;
+        retake(circuit, volts, j, memory)?;
     }
     Ok(())
 }
 
 // Whether so few curves strayed that updates cost less than an inversion: one for three free nodes at most.
-fn few(board: &[u64; 293], others: usize) -> bool
-    requires { driven_on board.now ≤ nodes_on board.now }
+fn few(circuit: &Circuit, others: usize) -> bool
+    requires { driven_on circuit.now.board ≤ nodes_on circuit.now.board }
 {
-    others <= (board::nodes(board) - board::driven(board)) / 3
+    others <= (circuit.nodes() - circuit.driven()) / 3
 }
 
 // The inverse of the lines at these voltages: updated where few curves have strayed, else made anew.
 pub fn refreshed(
-    board: &[u64; 293],
-    stretches: &[i64; 408],
+    circuit: &Circuit,
     stored: &[i64; 32],
     volts: &[i64; 16],
     memory: &mut Memory,
 ) -> Result<(), Singular>
-    requires { Evaluable board.now stretches.now stored.now volts.now }
+    requires { Evaluable circuit.now.board circuit.now.stretches stored.now volts.now }
 {
     let Some(updates) = memory.updates else {
-        note_curves(board, memory);
-        return anew(board, stretches, stored, volts, memory);
+        note_curves(circuit, memory);
+        return anew(circuit, stored, volts, memory);
     };
-    let others = strayed(board, stretches, volts, memory);
+    let others = strayed(circuit, volts, memory);
     if others == 0 {
         return Ok(());
     }
-    if updates < UPDATES && few(board, others) {
-        if retaken(board, stretches, volts, memory).is_ok() {
+    if updates < UPDATES && few(circuit, others) {
+        if retaken(circuit, volts, memory).is_ok() {
             return Ok(());
         }
     }
-    anew(board, stretches, stored, volts, memory)
+    anew(circuit, stored, volts, memory)
 }
 
 // Whether two lines are one, or meet within a microvolt of v.
@@ -207,31 +181,25 @@ fn meet(one: Tangent, other: Tangent, v: f64) -> bool {
 }
 
 // Whether element j stands on the line that is kept of it.
-fn holds(
-    board: &[u64; 293],
-    stretches: &[i64; 408],
-    volts: &[i64; 16],
-    lines: &[Tangent; 32],
-    j: usize,
-) -> bool
-    requires { Laid board.now stretches.now × Ranged board.now volts.now }
+fn holds(circuit: &Circuit, volts: &[i64; 16], lines: &[Tangent; 32], j: usize) -> bool
+    requires { Laid circuit.now.board circuit.now.stretches × Ranged circuit.now.board volts.now }
 {
-    if board::count(board) <= j {
+    if circuit.count() <= j {
         return true;
     }
     let v = Voltage {
-        microvolts: branch::across(board, volts, j),
+        microvolts: circuit.across(volts, j),
     };
-    let t = present(board, stretches, volts, lines, j);
+    let t = present(circuit, volts, lines, j);
     meet(lines[j], t, v.to_f64())
 }
 
 // .. and every curve.
-pub fn hold(board: &[u64; 293], stretches: &[i64; 408], volts: &[i64; 16], memory: &Memory) -> bool
-    requires { Laid board.now stretches.now × Ranged board.now volts.now }
+pub fn hold(circuit: &Circuit, volts: &[i64; 16], memory: &Memory) -> bool
+    requires { Laid circuit.now.board circuit.now.stretches × Ranged circuit.now.board volts.now }
 {
     memory
         .curves()
         .iter()
-        .all(|j| holds(board, stretches, volts, &memory.lines, *j))
+        .all(|j| holds(circuit, volts, &memory.lines, *j))
 }

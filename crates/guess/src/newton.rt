@@ -10,7 +10,7 @@ use crate::matrix::{self, Singular, Vector};
 use crate::memory::Memory;
 use crate::rows::Rows;
 use crate::{lines, places, ties, whole};
-use circuit::{board, nets};
+use circuit::Circuit;
 use units::signed;
 use units::voltage::Voltage;
 
@@ -45,28 +45,23 @@ fn damping(round: u64) -> f64 {
 }
 
 // What enters the free nodes: their net currents with the other sign.
-fn entering(
-    board: &[u64; 293],
-    stretches: &[i64; 408],
-    stored: &[i64; 32],
-    volts: &[i64; 16],
-) -> Vector
-    requires { Evaluable board.now stretches.now stored.now volts.now }
+fn entering(circuit: &Circuit, stored: &[i64; 32], volts: &[i64; 16]) -> Vector
+    requires { Evaluable circuit.now.board circuit.now.stretches stored.now volts.now }
 {
-    let exact = nets::taken(board, stretches, stored, volts);
+    let exact = circuit.net_currents(stored, volts);
     let mut enters = [0.0f64; 15];
-    for k in board::driven(board)..board::nodes(board) {
+    for k in circuit.driven()..circuit.nodes() {
         enters[k] = -std::num::nearest_i64_to_f64(exact[k + 1]);
     }
     enters
 }
 
 // The largest of them, either way.
-fn largest(board: &[u64; 293], enters: Vector) -> f64
-    requires { nodes_on board.now ≤ 15 }
+fn largest(circuit: &Circuit, enters: Vector) -> f64
+    requires { nodes_on circuit.now.board ≤ 15 }
 {
     let mut most: f64 = 0.0;
-    for k in board::driven(board)..board::nodes(board) {
+    for k in circuit.driven()..circuit.nodes() {
         most = larger(most, whole::size(enters[k]));
     }
     most
@@ -110,9 +105,9 @@ fn gone(v: i64, step: f64) -> i64
 
 // The node of row k goes a part of the way that x says, and x is what is left of it. How far it went: most
 // nodes go nowhere once they are solved.
-fn go_at(part: f64, k: usize, x: &mut Vector, volts: &mut [i64; 16], board: &[u64; 293]) -> f64
-    requires { (k < nodes_on board.now) × (nodes_on board.now ≤ 15) × Standing board.now volts.old }
-    ensures { Standing board.now volts.new }
+fn go_at(part: f64, k: usize, x: &mut Vector, volts: &mut [i64; 16], circuit: &Circuit) -> f64
+    requires { (k < nodes_on circuit.now.board) × (nodes_on circuit.now.board ≤ 15) × Standing circuit.now.board volts.old }
+    ensures { Standing circuit.now.board volts.new }
 {
     let step = whole::nearest(part * x[k]);
     if step == 0.0 {
@@ -124,54 +119,52 @@ fn go_at(part: f64, k: usize, x: &mut Vector, volts: &mut [i64; 16], board: &[u6
 }
 
 // .. and every free node. How far one went at the most.
-fn go(board: &[u64; 293], part: f64, x: &mut Vector, volts: &mut [i64; 16]) -> f64
-    requires { (nodes_on board.now ≤ 15) × Standing board.now volts.old }
-    ensures { Standing board.now volts.new }
+fn go(circuit: &Circuit, part: f64, x: &mut Vector, volts: &mut [i64; 16]) -> f64
+    requires { (nodes_on circuit.now.board ≤ 15) × Standing circuit.now.board volts.old }
+    ensures { Standing circuit.now.board volts.new }
 {
     let mut most: f64 = 0.0;
-    for k in board::driven(board)..board::nodes(board) {
-        most = larger(most, go_at(part, k, x, volts, board));
+    for k in circuit.driven()..circuit.nodes() {
+        most = larger(most, go_at(part, k, x, volts, circuit));
     }
     most
 }
 
 // How far the nodes have to go, by the lines where they stand.
 fn solved(
-    board: &[u64; 293],
-    stretches: &[i64; 408],
+    circuit: &Circuit,
     stored: &[i64; 32],
     volts: &[i64; 16],
     memory: &mut Memory,
 ) -> Result<Vector, Singular>
-    requires { Evaluable board.now stretches.now stored.now volts.now }
+    requires { Evaluable circuit.now.board circuit.now.stretches stored.now volts.now }
 {
-    lines::refreshed(board, stretches, stored, volts, memory)?;
-    let enters = entering(board, stretches, stored, volts);
-    Ok(matrix::times(&memory.inverse, &enters, Rows::free(board)))
+    lines::refreshed(circuit, stored, volts, memory)?;
+    let enters = entering(circuit, stored, volts);
+    Ok(matrix::times(&memory.inverse, &enters, Rows::free(circuit)))
 }
 
 // Rounds until every curve holds, or no voltage changed, or there were enough of them. What comes back is
 // how far the nodes still have to go, and whether every curve is on the line that was solved with, which
 // makes the solution exact. Where only a part of the way was gone, curves that hold tell nothing.
 fn rounds(
-    board: &[u64; 293],
-    stretches: &[i64; 408],
+    circuit: &Circuit,
     stored: &[i64; 32],
     volts: &mut [i64; 16],
     memory: &mut Memory,
 ) -> Result<(Vector, bool), Singular>
-    requires { Evaluable board.now stretches.now stored.now volts.old × Standing board.now volts.old }
-    ensures { Standing board.now volts.new }
+    requires { Evaluable circuit.now.board circuit.now.stretches stored.now volts.old × Standing circuit.now.board volts.old }
+    ensures { Standing circuit.now.board volts.new }
 {
     let mut x = [0.0f64; 15];
     let mut most: f64 = 1.0;
     for round in 0..ROUNDS {
-        x = solved(board, stretches, stored, volts, memory)?;
+        x = solved(circuit, stored, volts, memory)?;
         if most < 0.5 {
             return Ok((x, false));
         }
-        most = go(board, damping(round), &mut x, volts);
-        if goes_whole(round) && lines::hold(board, stretches, volts, memory) {
+        most = go(circuit, damping(round), &mut x, volts);
+        if goes_whole(round) && lines::hold(circuit, volts, memory) {
             return Ok((x, true));
         }
     }
@@ -180,34 +173,32 @@ fn rounds(
 
 // The rest of the way in the whole microvolts that the ties find best. What remains then.
 fn end(
-    board: &[u64; 293],
-    stretches: &[i64; 408],
+    circuit: &Circuit,
     stored: &[i64; 32],
     x: Vector,
     memory: &mut Memory,
     volts: &mut [i64; 16],
 ) -> f64
-    requires { Evaluable board.now stretches.now stored.now volts.old × Standing board.now volts.old }
-    ensures { Standing board.now volts.new }
+    requires { Evaluable circuit.now.board circuit.now.stretches stored.now volts.old × Standing circuit.now.board volts.old }
+    ensures { Standing circuit.now.board volts.new }
 {
-    let mut whole = ties::cut(memory, x, Rows::free(board));
-    go(board, 1.0, &mut whole, volts);
-    largest(board, entering(board, stretches, stored, volts))
+    let mut whole = ties::cut(memory, x, Rows::free(circuit));
+    go(circuit, 1.0, &mut whole, volts);
+    largest(circuit, entering(circuit, stored, volts))
 }
 
 // The rounds and then whole microvolts.
 fn search(
-    board: &[u64; 293],
-    stretches: &[i64; 408],
+    circuit: &Circuit,
     stored: &[i64; 32],
     volts: &mut [i64; 16],
     memory: &mut Memory,
 ) -> Result<Ending, Singular>
-    requires { Evaluable board.now stretches.now stored.now volts.old × Standing board.now volts.old }
-    ensures { Standing board.now volts.new }
+    requires { Evaluable circuit.now.board circuit.now.stretches stored.now volts.old × Standing circuit.now.board volts.old }
+    ensures { Standing circuit.now.board volts.new }
 {
-    let (x, held) = rounds(board, stretches, stored, volts, memory)?;
-    let left = end(board, stretches, stored, x, memory, volts);
+    let (x, held) = rounds(circuit, stored, volts, memory)?;
+    let left = end(circuit, stored, x, memory, volts);
     Ok(if held {
         Ending::Settled(left)
     } else {
@@ -217,24 +208,23 @@ fn search(
 
 // Rounded proposals for the free nodes in `guess`; those of `volts` if the search broke.
 pub fn newton(
-    board: &[u64; 293],
-    stretches: &[i64; 408],
+    circuit: &Circuit,
     stored: &[i64; 32],
     volts: &[i64; 16],
     memory: &mut Memory,
     guess: &mut [i64; 16],
 ) -> Ending
-    requires { Evaluable board.now stretches.now stored.now volts.now × (length guess.old ≡ 16) }
-    ensures { Proposed board.now guess.old guess.new }
+    requires { Evaluable circuit.now.board circuit.now.stretches stored.now volts.now × (length guess.old ≡ 16) }
+    ensures { Proposed circuit.now.board guess.old guess.new }
 {
     let mut at = circuit::places::copied(volts);
-    match search(board, stretches, stored, &mut at, memory) {
+    match search(circuit, stored, &mut at, memory) {
         Ok(ending) => {
-            places::place_free(board, &at, guess);
+            places::place_free(circuit, &at, guess);
             ending
         }
         Err(Singular) => {
-            places::place_free(board, volts, guess);
+            places::place_free(circuit, volts, guess);
             Ending::Broken
         }
     }

@@ -5,36 +5,35 @@ ghost use Rattle.guess.specs.Proposal.{Guessable, Proposed};
 use crate::memory::Memory;
 use crate::newton::Ending;
 use crate::{lines, newton, places, slide};
-use circuit::board;
+use circuit::Circuit;
 
 // One free node slides, more go Newton's way, and with none there is nothing to propose. `volts` may hold
 // anything; its ground and driven nodes stay as they are. The memory is new before the first sample of a
 // circuit, and then as the last call left it.
 pub fn propose(
-    board: &[u64; 293],
-    stretches: &[i64; 408],
+    circuit: &Circuit,
     stored: &[i64; 32],
     volts: &mut [i64; 16],
     memory: &mut Memory,
 ) -> Ending
-    requires { Guessable board.now stretches.now stored.now × (length volts.old ≡ 16) }
-    ensures { Proposed board.now volts.old volts.new }
+    requires { Guessable circuit.now.board circuit.now.stretches stored.now × (length volts.old ≡ 16) }
+    ensures { Proposed circuit.now.board volts.old volts.new }
 {
-    let nodes = board::nodes(board);
-    let driven = board::driven(board);
+    let nodes = circuit.nodes();
+    let driven = circuit.driven();
     if nodes == driven {
         return Ending::Settled(0.0);
     }
-    let mut at = places::seated(board, volts);
+    let mut at = places::seated(circuit, volts);
     if nodes == driven + 1 {
         if memory.updates.is_none() {
-            lines::note_curves(board, memory);
+            lines::note_curves(circuit, memory);
             memory.made();
         }
         let curved = !memory.curves().is_empty();
-        let ending = slide::slide(board, stretches, stored, nodes, curved, &mut at);
-        places::place_free(board, &at, volts);
+        let ending = slide::slide(circuit, stored, nodes, curved, &mut at);
+        places::place_free(circuit, &at, volts);
         return ending;
     }
-    newton::newton(board, stretches, stored, &at, memory, volts)
+    newton::newton(circuit, stored, &at, memory, volts)
 }

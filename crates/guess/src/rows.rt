@@ -2,7 +2,7 @@
 ghost use Rattle.std.specs.Prelude.{◌<◌, ◌≤◌};
 ghost use Rattle.circuit.specs.Board.{nodes_on};
 
-use circuit::board;
+use circuit::Circuit;
 
 // The free nodes' rows, from `first` up to `end`.
 #[derive(Clone, Copy)]
@@ -13,12 +13,12 @@ pub struct Rows {
 }
 
 impl Rows {
-    pub fn free(board: &[u64; 293]) -> Rows
-        requires { nodes_on board.now ≤ 15 }
+    pub fn free(circuit: &Circuit) -> Rows
+        requires { nodes_on circuit.now.board ≤ 15 }
     {
         Rows {
-            first: board::driven(board),
-            end: board::nodes(board),
+            first: circuit.driven(),
+            end: circuit.nodes(),
         }
     }
 }

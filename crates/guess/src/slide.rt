@@ -7,7 +7,7 @@ ghost use Rattle.guess.specs.Proposal.{Standing};
 use crate::newton::Ending;
 use crate::tangent::Tangent;
 use crate::{tangent, whole};
-use circuit::{board, branch};
+use circuit::Circuit;
 use units::voltage::Voltage;
 
 // How often the node is moved at most.
@@ -23,17 +23,11 @@ fn float_at(volts: &[i64; 16], i: usize) -> f64
 }
 
 // What leaves the node at an end by the end's element, as a line over the node's own voltage.
-fn leaving(
-    board: &[u64; 293],
-    stretches: &[i64; 408],
-    stored: &[i64; 32],
-    volts: &[i64; 16],
-    end: usize,
-) -> Tangent
-    requires { Evaluable board.now stretches.now stored.now volts.now × (end / 2 < count_on board.now) }
+fn leaving(circuit: &Circuit, stored: &[i64; 32], volts: &[i64; 16], end: usize) -> Tangent
+    requires { Evaluable circuit.now.board circuit.now.stretches stored.now volts.now × (end / 2 < count_on circuit.now.board) }
 {
-    let t = tangent::of_element(board, stretches, stored, volts, end / 2);
-    let other = t.slope * float_at(volts, branch::other(board, end));
+    let t = tangent::of_element(circuit, stored, volts, end / 2);
+    let other = t.slope * float_at(volts, circuit.other(end));
     if end % 2 == 0 {
         return Tangent {
             slope: t.slope,
@@ -47,20 +41,14 @@ fn leaving(
 }
 
 // The line of the node's net current where it stands.
-fn line(
-    board: &[u64; 293],
-    stretches: &[i64; 408],
-    stored: &[i64; 32],
-    volts: &[i64; 16],
-    node: usize,
-) -> Tangent
-    requires { Evaluable board.now stretches.now stored.now volts.now × (node ≤ nodes_on board.now) }
+fn line(circuit: &Circuit, stored: &[i64; 32], volts: &[i64; 16], node: usize) -> Tangent
+    requires { Evaluable circuit.now.board circuit.now.stretches stored.now volts.now × (node ≤ nodes_on circuit.now.board) }
 {
-    let after = board::start(board, node + 1);
-    let mut slope = std::num::nearest_u64_to_f64(board::leak(board));
+    let after = circuit.start(node + 1);
+    let mut slope = std::num::nearest_u64_to_f64(circuit.leak());
     let mut at_zero: f64 = 0.0;
-    for k in board::start(board, node)..after {
-        let t = leaving(board, stretches, stored, volts, board::end(board, k));
+    for k in circuit.start(node)..after {
+        let t = leaving(circuit, stored, volts, circuit.end(k));
         slope += t.slope;
         at_zero += t.at_zero;
     }
@@ -78,9 +66,9 @@ fn left(t: Tangent, v: f64) -> f64 {
 }
 
 // The node put at the voltage that x is. False if it is none.
-fn place_node(board: &[u64; 293], x: f64, node: usize, volts: &mut [i64; 16]) -> bool
-    requires { Standing board.now volts.old × (node ≤ 15) }
-    ensures { Standing board.now volts.new }
+fn place_node(circuit: &Circuit, x: f64, node: usize, volts: &mut [i64; 16]) -> bool
+    requires { Standing circuit.now.board volts.old × (node ≤ 15) }
+    ensures { Standing circuit.now.board volts.new }
 {
     match Voltage::from_f64(x) {
         Some(v) => {
@@ -94,27 +82,26 @@ fn place_node(board: &[u64; 293], x: f64, node: usize, volts: &mut [i64; 16]) ->
 
 // The node moved until its line stays the same, or often enough. Without a curve it can't change.
 pub fn slide(
-    board: &[u64; 293],
-    stretches: &[i64; 408],
+    circuit: &Circuit,
     stored: &[i64; 32],
     node: usize,
     curved: bool,
     volts: &mut [i64; 16],
 ) -> Ending
-    requires { Evaluable board.now stretches.now stored.now volts.old × Standing board.now volts.old × (node ≤ nodes_on board.now) }
-    ensures { Standing board.now volts.new }
+    requires { Evaluable circuit.now.board circuit.now.stretches stored.now volts.old × Standing circuit.now.board volts.old × (node ≤ nodes_on circuit.now.board) }
+    ensures { Standing circuit.now.board volts.new }
 {
-    let mut t = line(board, stretches, stored, volts, node);
+    let mut t = line(circuit, stored, volts, node);
     let mut x: f64 = 0.0;
     for _ in 0..ROUNDS {
         x = crossing(t);
-        if !place_node(board, x, node, volts) {
+        if !place_node(circuit, x, node, volts) {
             return Ending::Broken;
         }
         if !curved {
             return Ending::Settled(left(t, x));
         }
-        let next = line(board, stretches, stored, volts, node);
+        let next = line(circuit, stored, volts, node);
         if next == t {
             return Ending::Settled(left(next, x));
         }

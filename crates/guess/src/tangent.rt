@@ -5,7 +5,7 @@ ghost use Rattle.network.specs.Kind.{has_curve};
 ghost use Rattle.stretch.specs.Stretch.{CurveReady};
 ghost use Rattle.circuit.specs.Board.{count_on, kind_on, Laid, Ranged, Evaluable};
 
-use circuit::{board, branch};
+use circuit::Circuit;
 use network::kind;
 use stretch::{curve, stretches};
 
@@ -36,32 +36,26 @@ fn on_curve(stretches: &[i64; 408], first: usize, m: usize, v: i64) -> Tangent
 }
 
 // That of element j, which has a curve, at the voltage across it.
-pub fn of_curve(board: &[u64; 293], stretches: &[i64; 408], volts: &[i64; 16], j: usize) -> Tangent
-    requires { Laid board.now stretches.now × Ranged board.now volts.now × (j < count_on board.now) × (has_curve (kind_on board.now j) ≡ true) }
+pub fn of_curve(circuit: &Circuit, volts: &[i64; 16], j: usize) -> Tangent
+    requires { Laid circuit.now.board circuit.now.stretches × Ranged circuit.now.board volts.now × (j < count_on circuit.now.board) × (has_curve (kind_on circuit.now.board j) ≡ true) }
 {
     on_curve(
-        stretches,
-        board::first(board, j),
-        board::breakpoints(board, j),
-        branch::across(board, volts, j),
+        &circuit.stretches,
+        circuit.first(j),
+        circuit.breakpoints(j),
+        circuit.across(volts, j),
     )
 }
 
 // That of element j, whatever it is.
-pub fn of_element(
-    board: &[u64; 293],
-    stretches: &[i64; 408],
-    stored: &[i64; 32],
-    volts: &[i64; 16],
-    j: usize,
-) -> Tangent
-    requires { Evaluable board.now stretches.now stored.now volts.now × (j < count_on board.now) }
+pub fn of_element(circuit: &Circuit, stored: &[i64; 32], volts: &[i64; 16], j: usize) -> Tangent
+    requires { Evaluable circuit.now.board circuit.now.stretches stored.now volts.now × (j < count_on circuit.now.board) }
 {
-    if kind::has_curve(board::kind(board, j)) {
-        return of_curve(board, stretches, volts, j);
+    if kind::has_curve(circuit.kind(j)) {
+        return of_curve(circuit, volts, j);
     }
     Tangent {
-        slope: std::num::nearest_u64_to_f64(board::conductance(board, j)),
+        slope: std::num::nearest_u64_to_f64(circuit.conductance(j)),
         at_zero: -std::num::nearest_i64_to_f64(stored[j]),
     }
 }

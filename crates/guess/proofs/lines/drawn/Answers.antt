@@ -7,7 +7,7 @@ pub join-requires : goal.join-requires
 join-requires c =
     let l = c.loop-j in
     let f = in_places _ _ c.requires.ready.laid in
-    let there : l.j < count_on c.args.board.now = omega (arith, c.count-j-end.ensures) in (
+    let there : l.j < count_on c.args.circuit.now.board = omega (arith, c.count-j-end.ensures) in (
       omega (arith, c.end_p.ensures, f.p_there l.j there, f.few_nodes),
       omega (arith, c.end_q.ensures, f.q_there l.j there, f.few_nodes),
     )

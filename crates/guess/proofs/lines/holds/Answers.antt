@@ -5,5 +5,5 @@ use Rattle.guess.proofs.lines.holds.Goals as goal
 
 pub across-requires : goal.across-requires
 across-requires c =
-    let there : c.args.j < count_on c.args.board.now = search rules in
+    let there : c.args.j < count_on c.args.circuit.now.board = search rules in
     ends _ _ c.requires.0 c.args.j there _ c.requires.1
