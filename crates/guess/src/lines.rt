@@ -135,8 +135,7 @@ fn retaken(circuit: &Circuit, volts: &[i64; 16], memory: &mut Memory) -> Result<
     requires { Laid circuit.now.board circuit.now.stretches × Ranged circuit.now.board volts.now }
 {
     for k in 0..memory.curves().len() {
-        let j = memory.curves[k];
-        retake(circuit, volts, j, memory)?;
+        retake(circuit, volts, memory.curves[k], memory)?;
     }
     Ok(())
 }
@@ -165,10 +164,8 @@ pub fn refreshed(
     if others == 0 {
         return Ok(());
     }
-    if updates < UPDATES && few(circuit, others) {
-        if retaken(circuit, volts, memory).is_ok() {
-            return Ok(());
-        }
+    if updates < UPDATES && few(circuit, others) && retaken(circuit, volts, memory).is_ok() {
+        return Ok(());
     }
     anew(circuit, stored, volts, memory)
 }

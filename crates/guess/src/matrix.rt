@@ -11,7 +11,7 @@ use crate::rows::Rows;
 
 pub type Vector = [f64; 15];
 
-pub type Matrix = [[f64; 15]; 15];
+pub type Matrix = [Vector; 15];
 
 // There is no inverse, or it can't be had in this way.
 #[derive(Clone, Copy)]

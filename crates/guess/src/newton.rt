@@ -105,7 +105,7 @@ fn gone(v: i64, step: f64) -> i64
 
 // The node of row k goes a part of the way that x says, and x is what is left of it. How far it went: most
 // nodes go nowhere once they are solved.
-fn go_at(part: f64, k: usize, x: &mut Vector, volts: &mut [i64; 16], circuit: &Circuit) -> f64
+fn go_at(circuit: &Circuit, part: f64, k: usize, x: &mut Vector, volts: &mut [i64; 16]) -> f64
     requires { (k < nodes_on circuit.now.board) × (nodes_on circuit.now.board ≤ 15) × Standing circuit.now.board volts.old }
     ensures { Standing circuit.now.board volts.new }
 {
@@ -114,7 +114,7 @@ fn go_at(part: f64, k: usize, x: &mut Vector, volts: &mut [i64; 16], circuit: &C
         return 0.0;
     }
     volts[k + 1] = gone(volts[k + 1], step);
-    x[k] = x[k] - step;
+    x[k] -= step;
     whole::size(step)
 }
 
@@ -125,7 +125,7 @@ fn go(circuit: &Circuit, part: f64, x: &mut Vector, volts: &mut [i64; 16]) -> f6
 {
     let mut most: f64 = 0.0;
     for k in circuit.driven()..circuit.nodes() {
-        most = larger(most, go_at(part, k, x, volts, circuit));
+        most = larger(most, go_at(circuit, part, k, x, volts));
     }
     most
 }
