@@ -19,8 +19,9 @@ use Rattle.network.proofs.Hold.{keep_drives}
 use Rattle.network.proofs.Settle.{settling_start}
 use Rattle.network.proofs.Measures.{depth_over}
 use Rattle.circuit.specs.Board.{network_on}
-use Rattle.solve.specs.declared.settle.Rest.{Rest}
-use Rattle.solve.specs.declared.settle.Rest.TheVariants.{Found, Nothing}
+use Rattle.std.proofs.Common.{Result, Ok, Err}
+use Rattle.std.specs.Result.{IsOk}
+use Rattle.solve.specs.declared.settle.NoneInRange.{NoneInRange}
 use Rattle.solve.specs.Search.{Searching, Came}
 use Rattle.solve.specs.Climb.{Risen, Further}
 use Rattle.solve.proofs.PlaceLaws.{searching_legal}
@@ -58,17 +59,20 @@ module _ {board : List ℕ} {stretches stored z nets s u there : List ℤ} (from
   began d legal = settling_start N (reading stored) d (reading u) (legal_there d legal)
 
   -- settle passes nothing low, and s is: so it comes to something, and no lower than s
-  pub turned : {v : List ℤ} (r : Rest) → Came board stretches stored u v r → Turned board stretches stored z v
-  turned {v} Found came =
+  pub turned : {v : List ℤ} (r : Result Unit NoneInRange) → Came board stretches stored u v r → IsOk r × Turned board stretches stored z v
+  turned {v} (Ok _) came =
       let own = searching_legal from in
       let k = risen.low _ own low in
       let above : Under N (reading s) (reading v) = (came.0.settling _ (reading u) (began _ own)).covers (reading s) k.0 k.1 over in
-      record {
-        low = came.1;
-        legal = λ d legal. (came.0.settling d (reading u) (began d legal)).legal;
-        falls = omega (arith, risen.falls, depth_over N (reading v) (reading s) above);
-      }
-  turned Nothing none =
+      (
+        refl,
+        record {
+          low = came.1;
+          legal = λ d legal. (came.0.settling d (reading u) (began d legal)).legal;
+          falls = omega (arith, risen.falls, depth_over N (reading v) (reading s) above);
+        },
+      )
+  turned (Err _) none =
       let own = searching_legal from in
       let k = risen.low _ own low in
       absurd (none _ (reading u) (began _ own) (reading s) k.0 k.1 over)

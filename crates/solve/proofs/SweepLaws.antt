@@ -1,6 +1,6 @@
 -- A sweep: what the steps at the nodes so far say together. Assumes nothing.
 use mathlib.Core.Path.{◌≡◌, refl, sym, ◌∙◌, subst}
-use mathlib.Core.Bool.{Bool, true, false, false≢true}
+use mathlib.Core.Bool.{Bool, true, false, false≢true, ◌||◌}
 use mathlib.Core.List.{List}
 use Prim.Native.Nat.{ℕ, ◌+◌, ◌<◌}
 use native.Mathlib.Omega.{arith}
@@ -12,7 +12,11 @@ use Rattle.network.specs.Sample.{Low}
 use Rattle.network.specs.Search.{height}
 use Rattle.network.proofs.Measures.{height_under}
 use Rattle.circuit.specs.Board.{nodes_on, driven_on, network_on}
-use Rattle.solve.specs.Search.{Searching, LowAt, Down, Lowered}
+use Rattle.std.proofs.Common.{Result, Ok, Err}
+use Rattle.std.proofs.Math.Bool.{or-true, or-false}
+use Rattle.std.specs.Result.{IsErr, is_ok}
+use Rattle.solve.specs.declared.settle.NoneInRange.{NoneInRange}
+use Rattle.solve.specs.Search.{Searching, LowAt, Down, Lowered, Nowhere, Fell, Came}
 
 -- ---- going down, one after the other
 
@@ -61,5 +65,43 @@ module _ {board : List ℕ} {stretches stored before : List ℤ} where
           let l = lowered_more s.down h in
           record { searching = searching; down = l.down; still = λ e. absurd (false≢true (sym e)); falls = λ e. l.falls }
 
+      -- .. whichever of the two it was
+      pub swept_more : (fell : Bool) → Fell (LowAt board stretches stored after i) board stretches stored after next (Ok fell) → Swept board stretches stored before next then (moved || fell) (i + 1)
+      swept_more false h = rw or-false (swept_still h)
+      swept_more true h = rw or-true (swept_lower h)
+
     pub all_still : nodes_on board < i → moved ≡ false → (after ≡ before) × Low (network_on board stretches) (reading stored) (reading before)
     all_still past e = let k = s.still e in (k.0, λ j free. k.1 j (omega (arith, free.1)) free)
+
+    -- all nodes
+    pub swept_all : nodes_on board < i → Fell (Low (network_on board stretches) (reading stored) (reading before)) board stretches stored before after (Ok moved)
+    swept_all past = all_fell moved refl
+      where
+        all_fell : (m : Bool) → moved ≡ m → Fell (Low (network_on board stretches) (reading stored) (reading before)) board stretches stored before after (Ok m)
+        all_fell false e = all_still past e
+        all_fell true e = record { down = s.down; falls = s.falls e }
+
+-- ---- how it ends
+
+module _ (board : List ℕ) (stretches stored before after : List ℤ) where
+  -- nothing is in range
+  pub fell_out : (still : Type 0) (r : Result Bool NoneInRange) → IsErr r → Nowhere board stretches stored before → Fell still board stretches stored before after r
+  fell_out still (Ok _) e none = absurd (false≢true e)
+  fell_out still (Err _) e none = none
+
+  pub came_out : (r : Result Unit NoneInRange) → IsErr r → Nowhere board stretches stored before → Came board stretches stored before after r
+  came_out (Ok _) e none = absurd (false≢true e)
+  came_out (Err _) e none = none
+
+  -- the other way round
+  pub came_low : (r : Result Unit NoneInRange) → is_ok r ≡ true → Came board stretches stored before after r → Down board stretches stored before after × Low (network_on board stretches) (reading stored) (reading after)
+  came_low (Ok _) e came = came
+  came_low (Err _) e none = absurd (false≢true e)
+
+  pub came_nowhere : (r : Result Unit NoneInRange) → is_ok r ≡ false → Came board stretches stored before after r → Nowhere board stretches stored before
+  came_nowhere (Ok _) e came = absurd (false≢true (sym e))
+  came_nowhere (Err _) e none = none
+
+-- what a search finds nothing after, it finds nothing before
+pub nowhere_down : {board : List ℕ} {stretches stored before between : List ℤ} → Down board stretches stored before between → Nowhere board stretches stored between → Nowhere board stretches stored before
+nowhere_down down none d z h = none d z (down.settling d z h)

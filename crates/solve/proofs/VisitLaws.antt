@@ -3,7 +3,7 @@ use mathlib.Core.Path.{◌≡◌, refl, sym, ◌∙◌, subst}
 use mathlib.Core.Bool.{Bool, true, false, false≢true, cond}
 use mathlib.Core.List.{List}
 use mathlib.Core.Logic.{◌⊎◌, inl, inr, ⊎_elim}
-use Prim.Native.Nat.{ℕ, zero, suc, ◌-◌, ◌≤◌, ◌<◌}
+use Prim.Native.Nat.{ℕ, zero, suc, ◌+◌, ◌≤◌, ◌<◌}
 use native.Mathlib.Omega.{arith}
 use native.Mathlib.Nat.{le_refl}
 use lib.IntN.{ℤ, pos, ◌+ℤ◌, ◌-ℤ◌}
@@ -77,13 +77,13 @@ pub record LapTo (board : List ℕ) (stretches stored volts before after : List 
   pub ranged : Ranged board volts
   pub visit : Visit (network_on board stretches) (reading stored) (reading volts) (reading after)
   pub under : height (network_on board stretches) (reading after) ≤ height (network_on board stretches) (reading before)
-  pub still : went ≡ false → (j : ℕ) → Free (network_on board stretches) j → i < j → reading volts j <ℤ reading after j → LowAt board stretches stored after j
+  pub still : went ≡ false → (j : ℕ) → Free (network_on board stretches) j → i ≤ j → reading volts j <ℤ reading after j → LowAt board stretches stored after j
   pub falls : went ≡ true → height (network_on board stretches) (reading after) < height (network_on board stretches) (reading before)
-  pub back : wait ≡ false → (j : ℕ) → Free (network_on board stretches) j → i < j → reading after j ≡ reading volts j
-  pub waiting : wait ≡ true → (j : ℕ) × Free (network_on board stretches) j × (i < j) × (reading volts j <ℤ reading after j)
+  pub back : wait ≡ false → (j : ℕ) → Free (network_on board stretches) j → i ≤ j → reading after j ≡ reading volts j
+  pub waiting : wait ≡ true → (j : ℕ) × Free (network_on board stretches) j × (i ≤ j) × (reading volts j <ℤ reading after j)
 
 module _ {board : List ℕ} {stretches stored volts before : List ℤ} where
-  pub lap_none : {w : List ℤ} → Visiting board stretches stored volts before w → LapTo board stretches stored volts before before false false (nodes_on board)
+  pub lap_none : {w : List ℤ} → Visiting board stretches stored volts before w → LapTo board stretches stored volts before before false false (nodes_on board + 1)
   lap_none v = record {
     ranged = v.ranged;
     visit = v.visit;
@@ -94,77 +94,79 @@ module _ {board : List ℕ} {stretches stored volts before : List ℤ} where
     waiting = λ e. absurd (false≢true e);
   }
 
-  module _ {after w : List ℤ} (given : Searching board stretches stored after w) {went wait : Bool} {i : ℕ} (h : LapTo board stretches stored volts before after went wait i) where
+  module _ {after : List ℤ} {went wait : Bool} {i : ℕ} (h : LapTo board stretches stored volts before after went wait i) where
     abbrev N : Network
     N = network_on board stretches
 
-    module _ (above : driven_on board < i) (there : i ≤ nodes_on board) where
-      -- node i, or one that was visited
-      since : (j : ℕ) → i - 1 < j → (j ≡ i) ⊎ (i < j)
-      since j l = ⊎_elim (λ (m : suc i ≤ j). inr m) (λ (m : j < suc i). inl (omega arith)) (decide_n (suc i) j)
+    -- node n is the next
+    module _ {n : ℕ} (next_is : i ≡ n + 1) (above : driven_on board < n) (there : n ≤ nodes_on board) where
+      -- node n, or one that was visited
+      since : (j : ℕ) → n ≤ j → (j ≡ n) ⊎ (i ≤ j)
+      since j l = ⊎_elim (λ (m : i ≤ j). inr m) (λ (m : j < i). inl (omega arith)) (decide_n i j)
 
       -- a node stands where it did, or one above
-      over : reading volts i ≤ℤ reading after i
-      over = visit_over N (reading stored) (reading volts) (reading after) h.visit i there
+      over : reading volts n ≤ℤ reading after n
+      over = visit_over N (reading stored) (reading volts) (reading after) h.visit n there
 
-      pub lap_back : {next : List ℤ} → (next ≡ after) × (reading after i ≤ℤ reading volts i) → LapTo board stretches stored volts before next went wait (i - 1)
-      lap_back k = subst (λ (l : List ℤ). LapTo board stretches stored volts before l went wait (i - 1)) (sym k.0) (record {
+      pub lap_back : {next : List ℤ} → (next ≡ after) × (reading after n ≤ℤ reading volts n) → LapTo board stretches stored volts before next went wait n
+      lap_back k = subst (λ (l : List ℤ). LapTo board stretches stored volts before l went wait n) (sym k.0) (record {
         ranged = h.ranged;
         visit = h.visit;
         under = h.under;
-        still = λ e j f l. ⊎_elim (λ (q : j ≡ i). rw q (λ w. absurd (omega (signs, k.1)))) (λ (q : i < j). h.still e j f q) (since j l);
+        still = λ e j f l. ⊎_elim (λ (q : j ≡ n). rw q (λ w. absurd (omega (signs, k.1)))) (λ (q : i ≤ j). h.still e j f q) (since j l);
         falls = h.falls;
-        back = λ e j f l. ⊎_elim (λ (q : j ≡ i). rw q (omega (signs, k.1, over))) (λ (q : i < j). h.back e j f q) (since j l);
-        waiting = λ n. let w = h.waiting n in (w.0, w.1, omega (arith, w.2), w.3);
+        back = λ e j f l. ⊎_elim (λ (q : j ≡ n). rw q (omega (signs, k.1, over))) (λ (q : i ≤ j). h.back e j f q) (since j l);
+        waiting = λ m. let w = h.waiting m in (w.0, w.1, omega (arith, w.2), w.3);
       })
 
-      pub lap_waits : {next : List ℤ} → (next ≡ after) × (reading volts i <ℤ reading after i) × LowAt board stretches stored after i → LapTo board stretches stored volts before next went true (i - 1)
-      lap_waits k = subst (λ (l : List ℤ). LapTo board stretches stored volts before l went true (i - 1)) (sym k.0) (record {
+      pub lap_waits : {next : List ℤ} → (next ≡ after) × (reading volts n <ℤ reading after n) × LowAt board stretches stored after n → LapTo board stretches stored volts before next went true n
+      lap_waits k = subst (λ (l : List ℤ). LapTo board stretches stored volts before l went true n) (sym k.0) (record {
         ranged = h.ranged;
         visit = h.visit;
         under = h.under;
-        still = λ e j f l. ⊎_elim (λ (q : j ≡ i). rw q (λ w. k.2)) (λ (q : i < j). h.still e j f q) (since j l);
+        still = λ e j f l. ⊎_elim (λ (q : j ≡ n). rw q (λ w. k.2)) (λ (q : i ≤ j). h.still e j f q) (since j l);
         falls = h.falls;
         back = λ e. absurd (false≢true (sym e));
-        waiting = λ n. (i, (above, there), omega arith, k.1);
+        waiting = λ m. (n, (above, there), le_refl n, k.1);
       })
 
-      module _ (waits : reading volts i <ℤ reading after i) (high : pos 0 <ℤ net 1 (network_on board stretches) (reading stored) (reading after) i) where
-        short : i < length after
+      module _ {w : List ℤ} (given : Searching board stretches stored after w) where
+        short : n < length after
         short = short_of given there
 
-        -- a waiting node stands one above
-        one : reading after i -ℤ pos 1 ≡ reading volts i
-        one = ⊎_elim
-            (λ (e : reading after i ≡ reading volts i). absurd (omega signs))
-            (λ (e : (reading after i ≡ reading volts i +ℤ pos 1) × Free N i × (reading volts i <ℤ pos voltage_limit)). omega (signs, e.0, add_law (reading volts i) (pos 1), sub_law (reading after i) (pos 1)))
-            (visit_law N (reading stored) (reading volts) (reading after) h.visit i there)
+        module _ (waits : reading volts n <ℤ reading after n) (high : pos 0 <ℤ net 1 (network_on board stretches) (reading stored) (reading after) n) where
+          -- a waiting node stands one above
+          one : reading after n -ℤ pos 1 ≡ reading volts n
+          one = ⊎_elim
+              (λ (e : reading after n ≡ reading volts n). absurd (omega signs))
+              (λ (e : (reading after n ≡ reading volts n +ℤ pos 1) × Free N n × (reading volts n <ℤ pos voltage_limit)). omega (signs, e.0, add_law (reading volts n) (pos 1), sub_law (reading after n) (pos 1)))
+              (visit_law N (reading stored) (reading volts) (reading after) h.visit n there)
 
-        lower : height (network_on board stretches) (reading (set after i (reading volts i))) < height (network_on board stretches) (reading after)
-        lower = rw one at (height_falls_list N after i 1 short there (omega arith) (omega (signs, waits, h.ranged i there, abs_law (reading volts i), neg_law (pos voltage_limit), pos_law voltage_limit)))
+          lower : height (network_on board stretches) (reading (set after n (reading volts n))) < height (network_on board stretches) (reading after)
+          lower = rw one at (height_falls_list N after n 1 short there (omega arith) (omega (signs, waits, h.ranged n there, abs_law (reading volts n), neg_law (pos voltage_limit), pos_law voltage_limit)))
 
-        gone : LapTo board stretches stored volts before (set after i (reading volts i)) true wait (i - 1)
-        gone = record {
-          ranged = h.ranged;
-          visit = rw one at (visit_more_list N (reading stored) (reading volts) after i short h.visit (above, there) waits high);
-          under = omega (arith, lower, h.under);
-          still = λ e. absurd (false≢true (sym e));
-          falls = λ n. omega (arith, lower, h.under);
-          back = λ e j f l. set_cases (λ (k : ℕ) (w : ℤ). w ≡ reading volts k) after i j (reading volts i) short refl (λ n. h.back e j f (omega (arith, n)));
-          waiting = λ n. let w = h.waiting n in (
-            w.0,
-            w.1,
-            omega (arith, w.2),
-            set_cases (λ (k : ℕ) (u : ℤ). i < k → reading volts k <ℤ u) after i w.0 (reading volts i) short (λ m. absurd (omega arith)) (λ m q. w.3) w.2,
-          );
-        }
+          gone : LapTo board stretches stored volts before (set after n (reading volts n)) true wait n
+          gone = record {
+            ranged = h.ranged;
+            visit = rw one at (visit_more_list N (reading stored) (reading volts) after n short h.visit (above, there) waits high);
+            under = omega (arith, lower, h.under);
+            still = λ e. absurd (false≢true (sym e));
+            falls = λ m. omega (arith, lower, h.under);
+            back = λ e j f l. set_cases (λ (k : ℕ) (u : ℤ). u ≡ reading volts k) after n j (reading volts n) short refl (λ m. h.back e j f (omega (arith, m)));
+            waiting = λ m. let u = h.waiting m in (
+              u.0,
+              u.1,
+              omega (arith, u.2),
+              set_cases (λ (k : ℕ) (v : ℤ). n < k → reading volts k <ℤ v) after n u.0 (reading volts n) short (λ q. absurd (omega arith)) (λ q r. u.3) (omega (arith, u.2)),
+            );
+          }
 
-      pub lap_goes : {next : List ℤ} → (next ≡ set after i (reading volts i)) × (reading volts i <ℤ reading after i) × (pos 0 <ℤ net 1 (network_on board stretches) (reading stored) (reading after) i) → LapTo board stretches stored volts before next true wait (i - 1)
-      lap_goes k = subst (λ (l : List ℤ). LapTo board stretches stored volts before l true wait (i - 1)) (sym k.0) (gone k.1 k.2)
+        pub lap_goes : {next : List ℤ} → (next ≡ set after n (reading volts n)) × (reading volts n <ℤ reading after n) × (pos 0 <ℤ net 1 (network_on board stretches) (reading stored) (reading after) n) → LapTo board stretches stored volts before next true wait n
+        lap_goes k = subst (λ (l : List ℤ). LapTo board stretches stored volts before l true wait n) (sym k.0) (gone k.1 k.2)
 
     -- ---- the end of a lap
 
-    module _ (past : i ≤ driven_on board) where
+    module _ {w : List ℤ} (given : Searching board stretches stored after w) (past : i ≤ driven_on board + 1) where
       pub lap_through : wait ≡ false → (j : ℕ) → j ≤ nodes_on board → reading after j ≡ reading volts j
       lap_through e = by_node N (λ (j : ℕ). reading after j ≡ reading volts j)
           (λ j f. ⊎_elim
@@ -174,7 +176,7 @@ module _ {board : List ℕ} {stretches stored volts before : List ℤ} where
           (λ j f. h.back e j f (omega (arith, f.0)))
 
       pub lap_sticks : went ≡ false → wait ≡ true → Waiting board stretches volts after × Stuck board stretches stored volts after
-      lap_sticks e n = let w = h.waiting n in (record { node = w.0; free = w.1; waits = w.3 }, λ j f. h.still e j f (omega (arith, f.0)))
+      lap_sticks e m = let u = h.waiting m in (record { node = u.0; free = u.1; waits = u.3 }, λ j f. h.still e j f (omega (arith, f.0)))
 
 -- ---- a visit in which all that wait may go at once: it gets through, as a node that goes back only raises the net currents of the others
 

@@ -1,11 +1,10 @@
 -- What the whole search promises: the answer, or that there is none. Assumes nothing.
-use Rattle.std.specs.Prelude.{◌≡◌, Bool, cond, List, ℕ, suc, ◌≤◌, ◌<◌, ℤ, pos, length, ◌≤ℤ◌}
+use Rattle.std.specs.Prelude.{◌≡◌, Bool, cond, List, Result, Ok, Err, ℕ, suc, ◌≤◌, ◌<◌, ℤ, pos, length, ◌≤ℤ◌}
 use Rattle.units.specs.Voltage.{voltage_limit, clamped}
 use Rattle.network.specs.Network.{Free, reading, net}
 use Rattle.network.specs.Sample.{Answer, Empty, DrivesLegal}
 use Rattle.circuit.specs.Board.{nodes_on, driven_on, network_on, Ready, Kept}
-use Rattle.solve.specs.declared.settle.Rest.{Rest}
-use Rattle.solve.specs.declared.settle.Rest.TheVariants.{Found, Nothing}
+use Rattle.solve.specs.declared.settle.NoneInRange.{NoneInRange}
 
 -- the drives, where the driven nodes stand at them: that of node j + 1 is d j
 abbrev pub drives_at : List ℤ → ℕ → ℤ
@@ -37,6 +36,6 @@ pub record Solvable (board : List ℕ) (stretches stored given : List ℤ) : Typ
   pub drives : DrivesLegal (network_on board stretches) (drives_at given)
 
 -- what it gives: the answer at the nodes, or that there is none
-abbrev pub Solved : (board : List ℕ) (stretches stored given after : List ℤ) → Rest → Type 0
-Solved board stretches stored given after Found = Answer (network_on board stretches) (reading stored) (drives_at given) (reading after)
-Solved board stretches stored given after Nothing = Empty (network_on board stretches) (reading stored) (drives_at given)
+abbrev pub Solved : (board : List ℕ) (stretches stored given : List ℤ) → Result (List ℤ) NoneInRange → Type 0
+Solved board stretches stored given (Ok found) = Answer (network_on board stretches) (reading stored) (drives_at given) (reading found)
+Solved board stretches stored given (Err _) = Empty (network_on board stretches) (reading stored) (drives_at given)

@@ -1,5 +1,5 @@
 -- What one sample promises: network's outcome, which is unique. Assumes nothing.
-use Rattle.std.specs.Prelude.{◌≡◌, Bool, true, false, List, ℕ, ◌≤◌, ◌<◌, ℤ, pos, nat_abs, length, ◌≤ℤ◌, ◌<ℤ◌}
+use Rattle.std.specs.Prelude.{◌≡◌, Bool, true, false, List, Result, Ok, Err, ℕ, ◌≤◌, ◌<◌, ℤ, pos, nat_abs, length, ◌≤ℤ◌, ◌<ℤ◌}
 use Rattle.units.specs.Number.{number_of}
 use Rattle.units.specs.Voltage.{voltage_limit, drive_limit, InDrive}
 use Rattle.units.specs.declared.number.Number.{Number}
@@ -40,6 +40,11 @@ pub data Sampled (N : Network) (d : ℕ → ℤ) (x y v : List ℤ) : Number →
       → 0 < number_of (answer_of r)
       → y ≡ x
       → Sampled N d x y v (answer_of r)
+
+-- .. whose drives are legal: the voltages after it, or the number of its refusal
+abbrev pub Voiced : (N : Network) (d : ℕ → ℤ) (x y : List ℤ) → Result (List ℤ) Number → Type 0
+Voiced N d x y (Ok found) = Sampled N d x y found Done
+Voiced N d x y (Err number) = (0 < number_of number) × ((v : List ℤ) → Sampled N d x y v number)
 
 -- what a sample leaves in every place, u being the voltages before it: those past the nodes are as they were, and after a refusal all are
 pub record Leaves (N : Network) (x y u v : List ℤ) (number : Number) : Type 0 where

@@ -1,15 +1,12 @@
 -- What a search for the answer says of the voltages that it comes to, over a board. Assumes nothing.
-use Rattle.std.specs.Prelude.{◌≡◌, List, ℕ, ◌+◌, ◌*◌, ◌≤◌, ◌<◌, ℤ, pos, length, ◌≤ℤ◌}
+use Rattle.std.specs.Prelude.{◌≡◌, Bool, true, false, List, Result, Ok, Err, ℕ, ◌+◌, ◌*◌, ◌≤◌, ◌<◌, ℤ, pos, length, ◌≤ℤ◌}
 use Rattle.units.specs.Voltage.{voltage_limit}
 use Rattle.network.specs.Network.{reading, net, leak_limit, branch_limit, current_bound}
 use Rattle.network.specs.Sample.{Low, Under}
 use Rattle.network.specs.Search.{Settling, NoneUnder, height}
 use Rattle.circuit.specs.Board.{driven_on, network_on, Evaluable}
 use Rattle.circuit.specs.Nets.{Netted}
-use Rattle.solve.specs.declared.settle.Fall.{Fall}
-use Rattle.solve.specs.declared.settle.Fall.TheVariants.{Still, Lower, Out}
-use Rattle.solve.specs.declared.settle.Rest.{Rest}
-use Rattle.solve.specs.declared.settle.Rest.TheVariants.{Found, Nothing}
+use Rattle.solve.specs.declared.settle.NoneInRange.{NoneInRange}
 
 -- where a search stands: a board that is ready, stored currents within their limit, voltages in range with ground at zero, and their net currents
 pub record Searching (board : List ℕ) (stretches stored volts nets : List ℤ) : Type 0 where
@@ -48,13 +45,13 @@ pub record Lowered (board : List ℕ) (stretches stored before after : List ℤ)
 abbrev pub Nowhere : (board : List ℕ) (stretches stored before : List ℤ) → Type 0
 Nowhere board stretches stored before = (d z : ℕ → ℤ) → Settling (network_on board stretches) (reading stored) d z (reading before) → NoneUnder (network_on board stretches) (reading stored) d z
 
--- what came of a step or a sweep; `still` is what is then known
-abbrev pub Fell : Type 0 → (board : List ℕ) (stretches stored before after : List ℤ) → Fall → Type 0
-Fell still board stretches stored before after Still = (after ≡ before) × still
-Fell still board stretches stored before after Lower = Lowered board stretches stored before after
-Fell still board stretches stored before after Out = Nowhere board stretches stored before
+-- what came of a step or a sweep: whether some voltage is lower, or that there is nothing in range; `still` is what is known where none is
+abbrev pub Fell : Type 0 → (board : List ℕ) (stretches stored before after : List ℤ) → Result Bool NoneInRange → Type 0
+Fell still board stretches stored before after (Ok false) = (after ≡ before) × still
+Fell still board stretches stored before after (Ok true) = Lowered board stretches stored before after
+Fell still board stretches stored before after (Err _) = Nowhere board stretches stored before
 
 -- what came of the whole search downwards
-abbrev pub Came : (board : List ℕ) (stretches stored before after : List ℤ) → Rest → Type 0
-Came board stretches stored before after Found = Down board stretches stored before after × Low (network_on board stretches) (reading stored) (reading after)
-Came board stretches stored before after Nothing = Nowhere board stretches stored before
+abbrev pub Came : (board : List ℕ) (stretches stored before after : List ℤ) → Result Unit NoneInRange → Type 0
+Came board stretches stored before after (Ok _) = Down board stretches stored before after × Low (network_on board stretches) (reading stored) (reading after)
+Came board stretches stored before after (Err _) = Nowhere board stretches stored before

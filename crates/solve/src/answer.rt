@@ -6,8 +6,10 @@ ghost use Rattle.network.specs.Network.{node_limit};
 ghost use Rattle.circuit.specs.Board.{nodes_on, driven_on, Evaluable};
 ghost use Rattle.solve.specs.Answer.{seat_of, Seated, Start, Solvable, Solved};
 
+use crate::point::Point;
+use crate::settle::NoneInRange;
 use crate::{climb, settle};
-use circuit::{board, nets, node, places};
+use circuit::{board, node, places};
 use units::signed;
 use units::voltage::Voltage;
 
@@ -23,18 +25,18 @@ fn seat_at(top: bool, v: i64) -> i64
 
 // Ground at zero, the driven nodes at their drives and every free node so. Place by place, as a whole
 // array that is copied just after one of its places was stored has to wait for it.
-fn seat(board: &[u64; 293], top: bool, given: &[i64; 16], volts: &mut [i64; 16])
-    requires { (nodes_on board.now ≤ node_limit) × (driven_on board.now ≤ nodes_on board.now) × (length volts.old ≡ 16) }
-    ensures { Seated board.now top given.now volts.new }
+fn seated(board: &[u64; 293], top: bool, given: &[i64; 16]) -> [i64; 16]
+    requires { (nodes_on board.now ≤ node_limit) × (driven_on board.now ≤ nodes_on board.now) }
+    ensures { Seated board.now top given.now result }
 {
     let nodes = board::nodes(board);
-    let mut i = board::driven(board) + 1;
-    volts[0] = 0;
-    places::take(given, 1, i, volts);
-    while i <= nodes {
+    let first = board::driven(board) + 1;
+    let mut volts = [0i64; 16];
+    places::take(given, 1, first, &mut volts);
+    for i in first..nodes + 1 {
         volts[i] = seat_at(top, given[i]);
-        i += 1;
     }
+    volts
 }
 
 // Whether no low assignment passes these voltages, by document 01's test of a start: net current at or
@@ -49,12 +51,10 @@ fn is_start(
     ensures { result ≡ true → Start board.now stretches.now stored.now volts.now }
 {
     let nodes = board::nodes(board);
-    let mut i = board::driven(board) + 1;
-    while i <= nodes {
+    for i in board::driven(board) + 1..nodes + 1 {
         if signed::less(node::net_current(board, stretches, stored, volts, i), 0) {
             return false;
         }
-        i += 1;
     }
     true
 }
@@ -65,55 +65,35 @@ fn from_top(
     stretches: &[i64; 408],
     stored: &[i64; 32],
     given: &[i64; 16],
-    volts: &mut [i64; 16],
-) -> settle::Rest
-    requires { Solvable board.now stretches.now stored.now given.now × (length volts.old ≡ 16) }
-    ensures { Solved board.now stretches.now stored.now given.now volts.new result }
+) -> Result<[i64; 16], NoneInRange>
+    requires { Solvable board.now stretches.now stored.now given.now }
+    ensures { Solved board.now stretches.now stored.now given.now result }
 {
-    seat(board, true, given, volts);
-    let mut nets = nets::taken(board, stretches, stored, volts);
-    settle::settle(board, stretches, stored, volts, &mut nets)
+    let top = seated(board, true, given);
+    let mut at = Point::at(board, stretches, stored, top);
+    settle::settle(board, stretches, stored, &mut at)?;
+    Ok(at.volts)
 }
 
-// From the proposal, seated: settled, certified, climbed. Where there is nothing below it, that decides only
-// if it is a start, for which it is seated once more; else the top of the range does.
-fn from_proposal(
-    board: &[u64; 293],
-    stretches: &[i64; 408],
-    stored: &[i64; 32],
-    given: &[i64; 16],
-    volts: &mut [i64; 16],
-) -> settle::Rest
-    requires { Solvable board.now stretches.now stored.now given.now × Seated board.now false given.now volts.old }
-    ensures { Solved board.now stretches.now stored.now given.now volts.new result }
-{
-    let mut nets = nets::taken(board, stretches, stored, volts);
-    match settle::settle(board, stretches, stored, volts, &mut nets) {
-        settle::Rest::Found => {
-            climb::climb(board, stretches, stored, volts, &mut nets);
-            settle::Rest::Found
-        }
-        settle::Rest::Nothing => {
-            seat(board, false, given, volts);
-            if is_start(board, stretches, stored, volts) {
-                return settle::Rest::Nothing;
-            }
-            from_top(board, stretches, stored, given, volts)
-        }
-    }
-}
-
-// The answer at the nodes of `volts`, or that there is none. What stood there before does not count.
+// The answer, or that there is none: from the proposal, seated, then settled, certified, climbed. Where there is
+// nothing below it, that decides only if it is a start; else the top of the range does.
 pub fn solve(
     board: &[u64; 293],
     stretches: &[i64; 408],
     stored: &[i64; 32],
     given: &[i64; 16],
-    volts: &mut [i64; 16],
-) -> settle::Rest
-    requires { Solvable board.now stretches.now stored.now given.now × (length volts.old ≡ 16) }
-    ensures { Solved board.now stretches.now stored.now given.now volts.new result }
+) -> Result<[i64; 16], NoneInRange>
+    requires { Solvable board.now stretches.now stored.now given.now }
+    ensures { Solved board.now stretches.now stored.now given.now result }
 {
-    seat(board, false, given, volts);
-    from_proposal(board, stretches, stored, given, volts)
+    let proposal = seated(board, false, given);
+    let mut at = Point::at(board, stretches, stored, proposal);
+    if settle::settle(board, stretches, stored, &mut at).is_ok() {
+        climb::climb(board, stretches, stored, &mut at);
+        return Ok(at.volts);
+    }
+    if is_start(board, stretches, stored, &proposal) {
+        return Err(NoneInRange);
+    }
+    from_top(board, stretches, stored, given)
 }

@@ -10,7 +10,7 @@ ghost use Rattle.circuit.specs.Board.{nodes_on, driven_on, network_on, Ranged};
 ghost use Rattle.solve.specs.Search.{Searching};
 ghost use Rattle.solve.specs.Visit.{one_up, Raised, Visiting, VisitedAt, VisitedAll, AllGo, Judged};
 
-use crate::put;
+use crate::point::Point;
 use circuit::{board, shift};
 use units::signed;
 use units::voltage::Voltage;
@@ -29,13 +29,6 @@ pub enum Lap {
     Through,
     Sticks,
     Went,
-}
-
-// What came of the whole visit: nothing higher is low, or something is.
-#[derive(Clone, Copy)]
-pub enum Verdict {
-    Highest,
-    Higher,
 }
 
 // One microvolt more, below the top.
@@ -57,19 +50,16 @@ fn lift(
     stretches: &[i64; 408],
     stored: &[i64; 32],
     volts: &[i64; 16],
-    s: &mut [i64; 16],
-    w: &mut [i64; 16],
+    up: &mut Point,
 )
-    requires { Searching board.now stretches.now stored.now s.old w.old × (s.old ≡ volts.now) }
-    ensures { Searching board.now stretches.now stored.now s.new w.new × Raised board.now volts.now s.new }
+    requires { Searching board.now stretches.now stored.now up.old.volts up.old.nets × (up.old.volts ≡ volts.now) }
+    ensures { Searching board.now stretches.now stored.now up.new.volts up.new.nets × Raised board.now volts.now up.new.volts }
 {
     let nodes = board::nodes(board);
-    let mut i = board::driven(board) + 1;
-    while i <= nodes {
-        s[i] = one_up(volts[i]);
-        i += 1;
+    for i in board::driven(board) + 1..nodes + 1 {
+        up.volts[i] = one_up(volts[i]);
     }
-    shift::shift(board, stretches, stored, volts, s, w);
+    shift::shift(board, stretches, stored, volts, &up.volts, &mut up.nets);
 }
 
 // One node: if it is above where it was and its net current is above zero, it goes back.
@@ -79,20 +69,19 @@ fn visit_at(
     stored: &[i64; 32],
     volts: &[i64; 16],
     i: usize,
-    s: &mut [i64; 16],
-    w: &mut [i64; 16],
+    up: &mut Point,
 ) -> Stance
-    requires { Searching board.now stretches.now stored.now s.old w.old × Free (network_on board.now stretches.now) i × Ranged board.now volts.now }
-    ensures { Searching board.now stretches.now stored.now s.new w.new × VisitedAt board.now stretches.now stored.now volts.now s.old s.new i result }
+    requires { Searching board.now stretches.now stored.now up.old.volts up.old.nets × Free (network_on board.now stretches.now) i × Ranged board.now volts.now }
+    ensures { Searching board.now stretches.now stored.now up.new.volts up.new.nets × VisitedAt board.now stretches.now stored.now volts.now up.old.volts up.new.volts i result }
 {
     let v = volts[i];
-    if signed::at_most(s[i], v) {
+    if signed::at_most(up.volts[i], v) {
         return Stance::Back;
     }
-    if signed::at_most(w[i], 0) {
+    if signed::at_most(up.nets[i], 0) {
         return Stance::Waits;
     }
-    put::put(board, stretches, stored, i, v, s, w);
+    up.put(board, stretches, stored, i, v);
     Stance::Goes
 }
 
@@ -102,28 +91,22 @@ fn visit_all(
     stretches: &[i64; 408],
     stored: &[i64; 32],
     volts: &[i64; 16],
-    s: &mut [i64; 16],
-    w: &mut [i64; 16],
+    up: &mut Point,
 ) -> Lap
-    requires { Visiting board.now stretches.now stored.now volts.now s.old w.old }
-    ensures { Visiting board.now stretches.now stored.now volts.now s.new w.new × VisitedAll board.now stretches.now stored.now volts.now s.old s.new result }
+    requires { Visiting board.now stretches.now stored.now volts.now up.old.volts up.old.nets }
+    ensures { Visiting board.now stretches.now stored.now volts.now up.new.volts up.new.nets × VisitedAll board.now stretches.now stored.now volts.now up.old.volts up.new.volts result }
 {
-    let driven = board::driven(board);
+    let nodes = board::nodes(board);
     let mut went = false;
     let mut wait = false;
-    let mut i = board::nodes(board);
-    while driven < i {
-        match visit_at(board, stretches, stored, volts, i, s, w) {
-            Stance::Back => {
-                i -= 1;
-            }
+    for i in (board::driven(board) + 1..nodes + 1).rev() {
+        match visit_at(board, stretches, stored, volts, i, up) {
+            Stance::Back => {}
             Stance::Waits => {
                 wait = true;
-                i -= 1;
             }
             Stance::Goes => {
                 went = true;
-                i -= 1;
             }
         }
     }
@@ -147,45 +130,42 @@ fn sticks(v: i64, s: i64, w: i64) -> bool
 }
 
 // Whether every node that waits may go back as they all stand.
-fn all_go(board: &[u64; 293], volts: &[i64; 16], s: &[i64; 16], w: &[i64; 16]) -> bool
+fn all_go(board: &[u64; 293], volts: &[i64; 16], up: &Point) -> bool
     requires { (nodes_on board.now ≤ 15) × (driven_on board.now ≤ nodes_on board.now) }
-    ensures { result ≡ true → AllGo board.now volts.now s.now w.now }
+    ensures { result ≡ true → AllGo board.now volts.now up.now.volts up.now.nets }
 {
     let last = board::nodes(board);
-    let mut i = board::driven(board) + 1;
-    while i <= last {
-        if sticks(volts[i], s[i], w[i]) {
+    for i in board::driven(board) + 1..last + 1 {
+        if sticks(volts[i], up.volts[i], up.nets[i]) {
             return false;
         }
-        i += 1;
     }
     true
 }
 
-// The whole visit for `volts`; s and w begin as copies of them and of their net currents, and are the
-// higher one and its net currents if there is one. Nodes are moved only if not all may go back at once.
+// The whole visit for the voltages of `at`: where it sticks, which is higher and low, or that nothing is. Nodes
+// are moved only if not all may go back at once.
 pub fn certify(
     board: &[u64; 293],
     stretches: &[i64; 408],
     stored: &[i64; 32],
-    volts: &[i64; 16],
-    s: &mut [i64; 16],
-    w: &mut [i64; 16],
-) -> Verdict
-    requires { Searching board.now stretches.now stored.now s.old w.old × (s.old ≡ volts.now) }
-    ensures { Searching board.now stretches.now stored.now s.new w.new × Judged board.now stretches.now stored.now volts.now s.new result }
+    at: &Point,
+) -> Option<Point>
+    requires { Searching board.now stretches.now stored.now at.now.volts at.now.nets }
+    ensures { Judged board.now stretches.now stored.now at.now.volts result }
 {
-    lift(board, stretches, stored, volts, s, w);
-    if all_go(board, volts, s, w) {
-        return Verdict::Highest;
+    let mut up = *at;
+    lift(board, stretches, stored, &at.volts, &mut up);
+    if all_go(board, &at.volts, &up) {
+        return None;
     }
     loop {
-        match visit_all(board, stretches, stored, volts, s, w) {
+        match visit_all(board, stretches, stored, &at.volts, &mut up) {
             Lap::Through => {
-                return Verdict::Highest;
+                return None;
             }
             Lap::Sticks => {
-                return Verdict::Higher;
+                return Some(up);
             }
             Lap::Went => {}
         }

@@ -10,8 +10,9 @@ ghost use Rattle.circuit.specs.Board.{nodes_on, driven_on, network_on};
 ghost use Rattle.solve.specs.Search.{Searching};
 ghost use Rattle.solve.specs.Climb.{Further, Topped};
 
-use crate::{certify, put, settle};
-use circuit::{board, places};
+use crate::point::Point;
+use crate::{certify, settle};
+use circuit::board;
 use units::signed;
 use units::voltage::Voltage;
 
@@ -39,23 +40,16 @@ fn stride_at(t: u64, v: i64, s: i64, before: i64, after: i64) -> u64
     t
 }
 
-// .. by all of them. Nothing else is promised of it: it is a guess.
-fn stride(
-    board: &[u64; 293],
-    volts: &[i64; 16],
-    nets: &[i64; 16],
-    s: &[i64; 16],
-    w: &[i64; 16],
-) -> u64
+// .. by all of them, `low` being where they rose from and `high` where they are. Nothing else is promised of
+// it: it is a guess.
+fn stride(board: &[u64; 293], low: &Point, high: &Point) -> u64
     requires { (nodes_on board.now ≤ 15) × (driven_on board.now ≤ nodes_on board.now) }
     ensures { result ≤ 2 ^ 26 }
 {
     let nodes = board::nodes(board);
     let mut t: u64 = 67108864;
-    let mut i = board::driven(board) + 1;
-    while i <= nodes {
-        t = stride_at(t, volts[i], s[i], nets[i], w[i]);
-        i += 1;
+    for i in board::driven(board) + 1..nodes + 1 {
+        t = stride_at(t, low.volts[i], high.volts[i], low.nets[i], high.nets[i]);
     }
     t
 }
@@ -108,49 +102,30 @@ fn raise(
     stored: &[i64; 32],
     volts: &[i64; 16],
     t: u64,
-    s: &mut [i64; 16],
-    w: &mut [i64; 16],
+    high: &mut Point,
 )
-    requires { Searching board.now stretches.now stored.now s.old w.old × (t ≤ 2 ^ 26) }
-    ensures { Searching board.now stretches.now stored.now s.new w.new × Further board.now s.old s.new }
+    requires { Searching board.now stretches.now stored.now high.old.volts high.old.nets × (t ≤ 2 ^ 26) }
+    ensures { Searching board.now stretches.now stored.now high.new.volts high.new.nets × Further board.now high.old.volts high.new.volts }
 {
-    let given = places::copied(s);
     let nodes = board::nodes(board);
-    let mut i = board::driven(board) + 1;
-    while i <= nodes {
-        let u = further(volts[i], given[i], t);
-        put::put(board, stretches, stored, i, u, s, w);
-        i += 1;
+    for i in board::driven(board) + 1..nodes + 1 {
+        let u = further(volts[i], high.volts[i], t);
+        high.put(board, stretches, stored, i, u);
     }
 }
 
 // Climb: certified, or higher and certified again.
-pub fn climb(
-    board: &[u64; 293],
-    stretches: &[i64; 408],
-    stored: &[i64; 32],
-    volts: &mut [i64; 16],
-    nets: &mut [i64; 16],
-)
-    requires { Searching board.now stretches.now stored.now volts.old nets.old × Low (network_on board.now stretches.now) (reading stored.now) (reading volts.old) }
-    ensures { Topped board.now stretches.now stored.now volts.old volts.new }
+pub fn climb(board: &[u64; 293], stretches: &[i64; 408], stored: &[i64; 32], at: &mut Point)
+    requires { Searching board.now stretches.now stored.now at.old.volts at.old.nets × Low (network_on board.now stretches.now) (reading stored.now) (reading at.old.volts) }
+    ensures { Topped board.now stretches.now stored.now at.old.volts at.new.volts }
 {
     let mut reach: u64 = 0;
-    loop {
-        let mut s = places::copied(volts);
-        let mut w = places::copied(nets);
-        match certify::certify(board, stretches, stored, volts, &mut s, &mut w) {
-            certify::Verdict::Highest => {
-                return;
-            }
-            certify::Verdict::Higher => {
-                let t = farther(stride(board, volts, nets, &s, &w), reach);
-                reach = onward(reach);
-                raise(board, stretches, stored, volts, t, &mut s, &mut w);
-                *volts = s;
-                *nets = w;
-                settle::settle(board, stretches, stored, volts, nets);
-            }
-        }
+    while let Some(higher) = certify::certify(board, stretches, stored, at) {
+        let t = farther(stride(board, at, &higher), reach);
+        reach = onward(reach);
+        let mut high = higher;
+        raise(board, stretches, stored, &at.volts, t, &mut high);
+        *at = high;
+        settle::settle(board, stretches, stored, at).unwrap();
     }
 }

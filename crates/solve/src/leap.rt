@@ -1,4 +1,4 @@
-// Leap: what sank together sinks on together. It is tried in copies, and the net currents at the far end
+// Leap: what sank together sinks on together. It is tried in a copy, and the net currents at the far end
 // are what proves it.
 ghost use Rattle.std.specs.Prelude.{◌≡◌, true, ◌^◌, ◌≤◌, pos, ◌-ℤ◌, ◌*ℤ◌, ◌<ℤ◌};
 ghost use Rattle.units.specs.Voltage.{InRange, bottom};
@@ -7,8 +7,8 @@ ghost use Rattle.circuit.specs.Board.{nodes_on, driven_on, network_on, Ranged};
 ghost use Rattle.solve.specs.Search.{Searching, Down};
 ghost use Rattle.solve.specs.Leap.{Reached, Led, Sinkable, LandedAt, Lands};
 
-use crate::put;
-use circuit::{board, places};
+use crate::point::Point;
+use circuit::board;
 use units::signed;
 use units::voltage::Voltage;
 
@@ -43,18 +43,15 @@ fn lead(
     from: &[i64; 16],
     volts: &[i64; 16],
     m: u64,
-    far: &mut [i64; 16],
-    nets: &mut [i64; 16],
+    far: &mut Point,
 )
-    requires { Searching board.now stretches.now stored.now far.old nets.old × Ranged board.now from.now × (m ≤ 2 ^ 26) × (far.old ≡ volts.now) }
-    ensures { Searching board.now stretches.now stored.now far.new nets.new × Led board.now volts.now far.new }
+    requires { Searching board.now stretches.now stored.now far.old.volts far.old.nets × Ranged board.now from.now × (m ≤ 2 ^ 26) × (far.old.volts ≡ volts.now) }
+    ensures { Searching board.now stretches.now stored.now far.new.volts far.new.nets × Led board.now volts.now far.new.volts }
 {
     let nodes = board::nodes(board);
-    let mut i = board::driven(board) + 1;
-    while i <= nodes {
+    for i in board::driven(board) + 1..nodes + 1 {
         let u = reached(from[i], volts[i], m);
-        put::put(board, stretches, stored, i, u, far, nets);
-        i += 1;
+        far.put(board, stretches, stored, i, u);
     }
 }
 
@@ -63,14 +60,7 @@ fn leapt(board: &[u64; 293], volts: &[i64; 16], far: &[i64; 16]) -> bool
     requires { (nodes_on board.now ≤ 15) × (driven_on board.now ≤ nodes_on board.now) }
 {
     let nodes = board::nodes(board);
-    let mut i = board::driven(board) + 1;
-    while i <= nodes {
-        if signed::less(far[i], volts[i]) {
-            return true;
-        }
-        i += 1;
-    }
-    false
+    (board::driven(board) + 1..nodes + 1).any(|i| signed::less(far[i], volts[i]))
 }
 
 // One node at the far end. If it leapt, its net current has to be above zero there, and it is lowered by
@@ -81,21 +71,20 @@ fn land_at(
     stored: &[i64; 32],
     volts: &[i64; 16],
     i: usize,
-    far: &mut [i64; 16],
-    nets: &mut [i64; 16],
+    far: &mut Point,
 ) -> bool
-    requires { Searching board.now stretches.now stored.now far.old nets.old × Free (network_on board.now stretches.now) i × (reading far.old i <ℤ reading volts.now i → bottom <ℤ reading far.old i) }
-    ensures { Searching board.now stretches.now stored.now far.new nets.new × (result ≡ true → LandedAt board.now stretches.now stored.now volts.now far.old i far.new) }
+    requires { Searching board.now stretches.now stored.now far.old.volts far.old.nets × Free (network_on board.now stretches.now) i × (reading far.old.volts i <ℤ reading volts.now i → bottom <ℤ reading far.old.volts i) }
+    ensures { Searching board.now stretches.now stored.now far.new.volts far.new.nets × (result ≡ true → LandedAt board.now stretches.now stored.now volts.now far.old.volts i far.new.volts) }
 {
-    let u = far[i];
+    let u = far.volts[i];
     if signed::at_most(volts[i], u) {
         return true;
     }
-    if signed::at_most(nets[i], 0) {
+    if signed::at_most(far.nets[i], 0) {
         return false;
     }
     let down = signed::minus(u, 1);
-    put::put(board, stretches, stored, i, down, far, nets);
+    far.put(board, stretches, stored, i, down);
     true
 }
 
@@ -105,25 +94,21 @@ fn land(
     stretches: &[i64; 408],
     stored: &[i64; 32],
     volts: &[i64; 16],
-    far: &mut [i64; 16],
-    nets: &mut [i64; 16],
+    far: &mut Point,
 ) -> bool
-    requires { Searching board.now stretches.now stored.now far.old nets.old × Sinkable board.now volts.now far.old }
-    ensures { Searching board.now stretches.now stored.now far.new nets.new × (result ≡ true → Lands board.now stretches.now stored.now volts.now far.old far.new) }
+    requires { Searching board.now stretches.now stored.now far.old.volts far.old.nets × Sinkable board.now volts.now far.old.volts }
+    ensures { Searching board.now stretches.now stored.now far.new.volts far.new.nets × (result ≡ true → Lands board.now stretches.now stored.now volts.now far.old.volts far.new.volts) }
 {
     let nodes = board::nodes(board);
-    let mut i = board::driven(board) + 1;
-    while i <= nodes {
-        if land_at(board, stretches, stored, volts, i, far, nets) {
-            i += 1;
-        } else {
+    for i in board::driven(board) + 1..nodes + 1 {
+        if !land_at(board, stretches, stored, volts, i, far) {
             return false;
         }
     }
     true
 }
 
-// Leap: the nodes that came from `from` to `volts` go m times as far again, if the far end proves it.
+// Leap: the nodes that came from `from` to where they are go m times as far again, if the far end proves it.
 // Whether some node did.
 fn leap(
     board: &[u64; 293],
@@ -131,23 +116,18 @@ fn leap(
     stored: &[i64; 32],
     from: &[i64; 16],
     m: u64,
-    volts: &mut [i64; 16],
-    nets: &mut [i64; 16],
+    at: &mut Point,
 ) -> bool
-    requires { Searching board.now stretches.now stored.now volts.old nets.old × Ranged board.now from.now × (m ≤ 2 ^ 26) }
-    ensures { Searching board.now stretches.now stored.now volts.new nets.new × Down board.now stretches.now stored.now volts.old volts.new }
+    requires { Searching board.now stretches.now stored.now at.old.volts at.old.nets × Ranged board.now from.now × (m ≤ 2 ^ 26) }
+    ensures { Searching board.now stretches.now stored.now at.new.volts at.new.nets × Down board.now stretches.now stored.now at.old.volts at.new.volts }
 {
-    let mut far = places::copied(volts);
-    let mut there = places::copied(nets);
-    lead(
-        board, stretches, stored, from, volts, m, &mut far, &mut there,
-    );
-    if !leapt(board, volts, &far) {
+    let mut far = *at;
+    lead(board, stretches, stored, from, &at.volts, m, &mut far);
+    if !leapt(board, &at.volts, &far.volts) {
         return false;
     }
-    if land(board, stretches, stored, volts, &mut far, &mut there) {
-        *volts = far;
-        *nets = there;
+    if land(board, stretches, stored, &at.volts, &mut far) {
+        *at = far;
         return true;
     }
     false
@@ -159,18 +139,13 @@ pub fn leaps(
     stretches: &[i64; 408],
     stored: &[i64; 32],
     from: &[i64; 16],
-    volts: &mut [i64; 16],
-    nets: &mut [i64; 16],
+    at: &mut Point,
 )
-    requires { Searching board.now stretches.now stored.now volts.old nets.old × Ranged board.now from.now }
-    ensures { Searching board.now stretches.now stored.now volts.new nets.new × Down board.now stretches.now stored.now volts.old volts.new }
+    requires { Searching board.now stretches.now stored.now at.old.volts at.old.nets × Ranged board.now from.now }
+    ensures { Searching board.now stretches.now stored.now at.new.volts at.new.nets × Down board.now stretches.now stored.now at.old.volts at.new.volts }
 {
     let mut m: u64 = 1;
-    while m < 67108864 {
-        if leap(board, stretches, stored, from, m, volts, nets) {
-            m = 2 * m;
-        } else {
-            return;
-        }
+    while m < 67108864 && leap(board, stretches, stored, from, m, at) {
+        m = 2 * m;
     }
 }

@@ -7,6 +7,6 @@ mod certify;
 mod climb;
 mod leap;
 mod plunge;
-mod put;
+mod point;
 pub mod sample;
 mod settle;

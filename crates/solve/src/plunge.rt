@@ -1,14 +1,13 @@
 // Plunge: one node that took a step sinks on, by the slope where it stands. A step by the steepest sum leaves
 // most of the net current where a diode is not at its steepest, and what it took off tells the slope there.
-// It is tried in copies, and the net current at the far end is what proves it.
+// It is tried in a copy, and the net current at the far end is what proves it.
 ghost use Rattle.std.specs.Prelude.{◌≡◌, true, ◌^◌, ◌≤◌, ◌<◌, pos, ◌≤ℤ◌, ◌<ℤ◌};
 ghost use Rattle.units.specs.Voltage.{InRange};
 ghost use Rattle.network.specs.Network.{Free, reading};
 ghost use Rattle.circuit.specs.Board.{network_on};
 ghost use Rattle.solve.specs.Search.{Searching, Down};
 
-use crate::put;
-use circuit::places;
+use crate::point::Point;
 use units::signed;
 use units::voltage::Voltage;
 
@@ -67,26 +66,23 @@ pub fn plunge(
     i: usize,
     b: i64,
     before: i64,
-    volts: &mut [i64; 16],
-    nets: &mut [i64; 16],
+    at: &mut Point,
 )
-    requires { Searching board.now stretches.now stored.now volts.old nets.old × Free (network_on board.now stretches.now) i × InRange b }
-    ensures { Searching board.now stretches.now stored.now volts.new nets.new × Down board.now stretches.now stored.now volts.old volts.new }
+    requires { Searching board.now stretches.now stored.now at.old.volts at.old.nets × Free (network_on board.now stretches.now) i × InRange b }
+    ensures { Searching board.now stretches.now stored.now at.new.volts at.new.nets × Down board.now stretches.now stored.now at.old.volts at.new.volts }
 {
-    if !is_high(nets, i) {
+    if !is_high(&at.nets, i) {
         return;
     }
-    let v = volts[i];
-    let t = more(b, v, before, nets[i]);
+    let v = at.volts[i];
+    let t = more(b, v, before, at.nets[i]);
     if t == 0 {
         return;
     }
     let u = sunk(v, t);
-    let mut far = places::copied(volts);
-    let mut there = places::copied(nets);
-    put::put(board, stretches, stored, i, u, &mut far, &mut there);
-    if is_high(&there, i) {
-        *volts = far;
-        *nets = there;
+    let mut far = *at;
+    far.put(board, stretches, stored, i, u);
+    if is_high(&far.nets, i) {
+        *at = far;
     }
 }

@@ -4,9 +4,9 @@ ghost use Rattle.std.specs.Prelude.{true, ◌≡◌, ◌+◌, ◌≤◌, ◌<◌
 ghost use Rattle.circuit.specs.Board.{nodes_on, driven_on, network_on};
 ghost use Rattle.circuit.specs.Places.{Taken};
 ghost use Rattle.solve.specs.Answer.{drives_at};
-ghost use Rattle.solve.specs.Sample.{DrivesTested, TopTested, Playable, Sampled, Leaves};
+ghost use Rattle.solve.specs.Sample.{DrivesTested, TopTested, Playable, Voiced, Leaves};
 
-use crate::{answer, settle};
+use crate::answer;
 use circuit::{advance, board, places};
 use units::number::Number;
 use units::voltage::Voltage;
@@ -16,15 +16,11 @@ fn drives_legal(board: &[u64; 293], volts: &[i64; 16]) -> bool
     requires { driven_on board.now ≤ 15 }
     ensures { DrivesTested board.now volts.now result }
 {
-    let driven = board::driven(board);
-    let mut j: usize = 0;
-    while j < driven {
+    for j in 0..board::driven(board) {
         let v = Voltage {
             microvolts: volts[j + 1],
         };
-        if v.in_drive() {
-            j += 1;
-        } else {
+        if !v.in_drive() {
             return false;
         }
     }
@@ -37,40 +33,36 @@ fn at_top(board: &[u64; 293], volts: &[i64; 16]) -> bool
     ensures { TopTested board.now volts.now result }
 {
     let nodes = board::nodes(board);
-    let mut i = board::driven(board) + 1;
-    while i <= nodes {
+    for i in board::driven(board) + 1..nodes + 1 {
         let v = Voltage {
             microvolts: volts[i],
         };
-        if v.below_top() {
-            i += 1;
-        } else {
+        if !v.below_top() {
             return true;
         }
     }
     false
 }
 
-// A sample whose drives are legal. Its voltages are left in `volts`; what is given stays.
+// A sample whose drives are legal: its voltages, or the number of its refusal.
 fn voiced(
     board: &[u64; 293],
     stretches: &[i64; 408],
     given: &[i64; 16],
-    volts: &mut [i64; 16],
     stored: &mut [i64; 32],
-) -> Number
-    requires { Playable board.now stretches.now stored.old × DrivesTested board.now given.now true × (length volts.old ≡ 16) }
-    ensures { Sampled (network_on board.now stretches.now) (drives_at given.now) stored.old stored.new volts.new result }
+) -> Result<[i64; 16], Number>
+    requires { Playable board.now stretches.now stored.old × DrivesTested board.now given.now true }
+    ensures { Voiced (network_on board.now stretches.now) (drives_at given.now) stored.old stored.new result }
 {
-    match answer::solve(board, stretches, stored, given, volts) {
-        settle::Rest::Nothing => Number::Rail,
-        settle::Rest::Found => {
-            if at_top(board, volts) {
-                return Number::Rail;
+    match answer::solve(board, stretches, stored, given) {
+        Err(_) => Err(Number::Rail),
+        Ok(found) => {
+            if at_top(board, &found) {
+                return Err(Number::Rail);
             }
-            match advance::advance(board, stretches, volts, stored) {
-                advance::Advanced::Stored => Number::Done,
-                advance::Advanced::Beyond => Number::Stored,
+            match advance::advance(board, stretches, &found, stored) {
+                advance::Advanced::Stored => Ok(found),
+                advance::Advanced::Beyond => Err(Number::Stored),
             }
         }
     }
@@ -100,10 +92,11 @@ pub fn sample(
     if !drives_legal(board, volts) {
         return Number::Drive;
     }
-    let mut found = [0i64; 16];
-    let answer = voiced(board, stretches, volts, &mut found, stored);
-    if u64::from(answer) == 0 {
-        hand_over(board, &found, volts);
+    match voiced(board, stretches, volts, stored) {
+        Err(number) => number,
+        Ok(found) => {
+            hand_over(board, &found, volts);
+            Number::Done
+        }
     }
-    answer
 }

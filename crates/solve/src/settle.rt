@@ -11,26 +11,15 @@ ghost use Rattle.network.specs.Sample.{Low};
 ghost use Rattle.circuit.specs.Board.{network_on};
 ghost use Rattle.solve.specs.Search.{Searching, Fell, LowAt, net_bound, Came};
 
-use crate::{leap, plunge, put};
-use circuit::{board, places};
+use crate::point::Point;
+use crate::{leap, plunge};
+use circuit::board;
 use units::signed;
 use units::voltage::Voltage;
 
-// What came of a step or a sweep: no net current above zero, voltages lower than before, or that
-// there is nothing below them in range.
+// That there are no low voltages in range at or below those that a search began with.
 #[derive(Clone, Copy)]
-pub enum Fall {
-    Still,
-    Lower,
-    Out,
-}
-
-// What a search downwards ends with: voltages, or that there are none in range.
-#[derive(Clone, Copy)]
-pub enum Rest {
-    Found,
-    Nothing,
-}
+pub struct NoneInRange;
 
 // v less the net current f over the steepest sum s, rounded up.
 fn lower_by(v: i64, f: i64, s: u64) -> i64
@@ -41,65 +30,48 @@ fn lower_by(v: i64, f: i64, s: u64) -> i64
 }
 
 // Step: one node lowered by as much as its steepest sum allows, where its net current is above zero, and
-// then further if that left much of it.
+// then further if that left much of it. Whether it was lowered.
 fn step(
     board: &[u64; 293],
     stretches: &[i64; 408],
     stored: &[i64; 32],
-    volts: &mut [i64; 16],
-    nets: &mut [i64; 16],
+    at: &mut Point,
     i: usize,
-) -> Fall
-    requires { Searching board.now stretches.now stored.now volts.old nets.old × Free (network_on board.now stretches.now) i }
-    ensures { Searching board.now stretches.now stored.now volts.new nets.new × Fell (LowAt board.now stretches.now stored.now volts.old i) board.now stretches.now stored.now volts.old volts.new result }
+) -> Result<bool, NoneInRange>
+    requires { Searching board.now stretches.now stored.now at.old.volts at.old.nets × Free (network_on board.now stretches.now) i }
+    ensures { Searching board.now stretches.now stored.now at.new.volts at.new.nets × Fell (LowAt board.now stretches.now stored.now at.old.volts i) board.now stretches.now stored.now at.old.volts at.new.volts result }
 {
-    let f = nets[i];
+    let f = at.nets[i];
     if signed::at_most(f, 0) {
-        return Fall::Still;
+        return Ok(false);
     }
-    let from = volts[i];
+    let from = at.volts[i];
     let v = lower_by(from, f, board::steepest(board, i));
     let u = Voltage { microvolts: v };
-    if u.in_range() {
-        put::put(board, stretches, stored, i, v, volts, nets);
-        plunge::plunge(board, stretches, stored, i, from, f, volts, nets);
-        return Fall::Lower;
+    if !u.in_range() {
+        return Err(NoneInRange);
     }
-    Fall::Out
+    at.put(board, stretches, stored, i, v);
+    plunge::plunge(board, stretches, stored, i, from, f, at);
+    Ok(true)
 }
 
-// A step at every free node, in the order of their numbers.
+// A step at every free node, in the order of their numbers. Whether one was lowered.
 fn sweep(
     board: &[u64; 293],
     stretches: &[i64; 408],
     stored: &[i64; 32],
-    volts: &mut [i64; 16],
-    nets: &mut [i64; 16],
-) -> Fall
-    requires { Searching board.now stretches.now stored.now volts.old nets.old }
-    ensures { Searching board.now stretches.now stored.now volts.new nets.new × Fell (Low (network_on board.now stretches.now) (reading stored.now) (reading volts.old)) board.now stretches.now stored.now volts.old volts.new result }
+    at: &mut Point,
+) -> Result<bool, NoneInRange>
+    requires { Searching board.now stretches.now stored.now at.old.volts at.old.nets }
+    ensures { Searching board.now stretches.now stored.now at.new.volts at.new.nets × Fell (Low (network_on board.now stretches.now) (reading stored.now) (reading at.old.volts)) board.now stretches.now stored.now at.old.volts at.new.volts result }
 {
     let nodes = board::nodes(board);
     let mut moved = false;
-    let mut i = board::driven(board) + 1;
-    while i <= nodes {
-        match step(board, stretches, stored, volts, nets, i) {
-            Fall::Still => {
-                i += 1;
-            }
-            Fall::Lower => {
-                moved = true;
-                i += 1;
-            }
-            Fall::Out => {
-                return Fall::Out;
-            }
-        }
+    for i in board::driven(board) + 1..nodes + 1 {
+        moved |= step(board, stretches, stored, at, i)?;
     }
-    if moved {
-        return Fall::Lower;
-    }
-    Fall::Still
+    Ok(moved)
 }
 
 // A sweep, and after two of them also leaps of what sank in it.
@@ -108,24 +80,20 @@ fn descend(
     stretches: &[i64; 408],
     stored: &[i64; 32],
     sweeps: u64,
-    volts: &mut [i64; 16],
-    nets: &mut [i64; 16],
-) -> Fall
-    requires { Searching board.now stretches.now stored.now volts.old nets.old }
-    ensures { Searching board.now stretches.now stored.now volts.new nets.new × Fell (Low (network_on board.now stretches.now) (reading stored.now) (reading volts.old)) board.now stretches.now stored.now volts.old volts.new result }
+    at: &mut Point,
+) -> Result<bool, NoneInRange>
+    requires { Searching board.now stretches.now stored.now at.old.volts at.old.nets }
+    ensures { Searching board.now stretches.now stored.now at.new.volts at.new.nets × Fell (Low (network_on board.now stretches.now) (reading stored.now) (reading at.old.volts)) board.now stretches.now stored.now at.old.volts at.new.volts result }
 {
     if sweeps < 2 {
-        return sweep(board, stretches, stored, volts, nets);
+        return sweep(board, stretches, stored, at);
     }
-    let before = places::copied(volts);
-    match sweep(board, stretches, stored, volts, nets) {
-        Fall::Still => Fall::Still,
-        Fall::Out => Fall::Out,
-        Fall::Lower => {
-            leap::leaps(board, stretches, stored, &before, volts, nets);
-            Fall::Lower
-        }
+    let before = at.volts;
+    let moved = sweep(board, stretches, stored, at)?;
+    if moved {
+        leap::leaps(board, stretches, stored, &before, at);
     }
+    Ok(moved)
 }
 
 // Settle: sweeps and leaps until no net current is above zero.
@@ -133,26 +101,16 @@ pub fn settle(
     board: &[u64; 293],
     stretches: &[i64; 408],
     stored: &[i64; 32],
-    volts: &mut [i64; 16],
-    nets: &mut [i64; 16],
-) -> Rest
-    requires { Searching board.now stretches.now stored.now volts.old nets.old }
-    ensures { Searching board.now stretches.now stored.now volts.new nets.new × Came board.now stretches.now stored.now volts.old volts.new result }
+    at: &mut Point,
+) -> Result<(), NoneInRange>
+    requires { Searching board.now stretches.now stored.now at.old.volts at.old.nets }
+    ensures { Searching board.now stretches.now stored.now at.new.volts at.new.nets × Came board.now stretches.now stored.now at.old.volts at.new.volts result }
 {
     let mut sweeps: u64 = 0;
-    loop {
-        match descend(board, stretches, stored, sweeps, volts, nets) {
-            Fall::Still => {
-                return Rest::Found;
-            }
-            Fall::Out => {
-                return Rest::Nothing;
-            }
-            Fall::Lower => {
-                if sweeps < 2 {
-                    sweeps += 1;
-                }
-            }
+    while descend(board, stretches, stored, sweeps, at)? {
+        if sweeps < 2 {
+            sweeps += 1;
         }
     }
+    Ok(())
 }

@@ -1,22 +1,28 @@
-use Prim.Native.Nat.{◌<◌}
-use Rattle.circuit.specs.Board.{driven_on}
-use Rattle.solve.proofs.VisitLaws.{lap_back, lap_goes, lap_through}
+use Rattle.solve.proofs.VisitLaws.{lap_back, lap_waits, lap_goes, lap_through, lap_sticks}
 use native.Mathlib.Omega.{arith}
 use Rattle.solve.proofs.certify.visit_all.Goals as goal
 
 pub loop-i-preserved-in-Back : goal.loop-i-preserved-in-Back
 loop-i-preserved-in-Back c =
-    let above : driven_on c.args.board.now < c.loop-i.i = omega (arith, c.driven-driven.ensures) in
-    let h = c.loop-i.invariant in
     let k = c.in-Back.ensures in
-    (omega arith, omega arith, k.0, lap_back h.2 h.3 above h.1 k.1)
+    (k.0, lap_back c.loop-i.invariant.1 (omega arith) (omega (arith, c.driven-i-start.ensures)) (omega (arith, c.nodes-nodes.ensures)) k.1)
+
+pub loop-i-preserved-in-Waits : goal.loop-i-preserved-in-Waits
+loop-i-preserved-in-Waits c =
+    let k = c.in-Waits.ensures in
+    (k.0, lap_waits c.loop-i.invariant.1 (omega arith) (omega (arith, c.driven-i-start.ensures)) (omega (arith, c.nodes-nodes.ensures)) k.1)
 
 pub loop-i-preserved : goal.loop-i-preserved
 loop-i-preserved c =
-    let above : driven_on c.args.board.now < c.loop-i.i = omega (arith, c.driven-driven.ensures) in
-    let h = c.loop-i.invariant in
     let k = c.in-Goes.ensures in
-    (omega arith, omega arith, k.0, lap_goes h.2 h.3 above h.1 k.1)
+    (k.0, lap_goes c.loop-i.invariant.1 (omega arith) (omega (arith, c.driven-i-start.ensures)) (omega (arith, c.nodes-nodes.ensures)) c.loop-i.invariant.0 k.1)
+
+pub returns-then-wait : goal.returns-then-wait
+returns-then-wait c =
+    let h = c.loop-i.invariant in
+    (record { searching = h.0; ranged = h.1.ranged; visit = h.1.visit }, lap_sticks h.1 h.0 (omega (arith, c.driven-i-start.ensures)) c.if-went.false c.if-wait.true)
 
 pub returns : goal.returns
-returns c = let h = c.loop-i.invariant in (record { searching = h.2; ranged = h.3.ranged; visit = h.3.visit }, lap_through h.2 h.3 (omega (arith, c.driven-driven.ensures)) c.if-wait.false)
+returns c =
+    let h = c.loop-i.invariant in
+    (record { searching = h.0; ranged = h.1.ranged; visit = h.1.visit }, lap_through h.1 h.0 (omega (arith, c.driven-i-start.ensures)) c.if-wait.false)

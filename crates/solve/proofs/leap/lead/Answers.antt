@@ -1,5 +1,4 @@
 use mathlib.Core.Path.{◌≡◌}
-use Prim.Native.Nat.{◌<◌}
 use Rattle.network.specs.Network.{Free, reading}
 use Rattle.circuit.specs.Board.{network_on}
 use Rattle.solve.specs.Leap.{Reached}
@@ -12,9 +11,9 @@ use Rattle.solve.proofs.leap.lead.Goals as goal
 
 pub loop-i-preserved : goal.loop-i-preserved
 loop-i-preserved c =
-    let free : Free (network_on c.args.board.now c.args.stretches.now) c.loop-i.i = (c.loop-i.invariant.0, omega (arith, c.nodes-nodes.ensures)) in
-    let place : c.loop-i.i < 16 = place_of c.loop-i.invariant.2 free.1 in
-    let at-volts : to_z w64 (of_z w64 (reading c.args.volts.now c.loop-i.i)) ≡ reading c.args.volts.now c.loop-i.i = search rules in
-    let far : Reached (reading c.args.volts.now c.loop-i.i) (to_z w64 (of_z w64 c.reached-u.result)) = let e : to_z w64 (of_z w64 c.reached-u.result) ≡ c.reached-u.result = search rules in rw e (rw at-volts at c.reached-u.ensures) in
     let l = c.loop-i in
-    (omega arith, omega arith, c.put.ensures.0, changed_more l.invariant.3 l.invariant.0 place far c.put.ensures.1)
+    let free : Free (network_on c.args.board.now c.args.stretches.now) c.loop-i.i = (omega (arith, c.driven-i.ensures), omega (arith, c.nodes-nodes.ensures)) in
+    let at-volts : to_z w64 (of_z w64 (reading c.args.volts.now c.loop-i.i)) ≡ reading c.args.volts.now c.loop-i.i = search rules in
+    let e : to_z w64 (of_z w64 c.reached-u.result) ≡ c.reached-u.result = search rules in
+    let far : Reached (reading c.args.volts.now c.loop-i.i) (to_z w64 (of_z w64 c.reached-u.result)) = rw e (rw at-volts at c.reached-u.ensures) in
+    (c.put.ensures.0, changed_more l.invariant.1 free.0 (place_of l.invariant.0 free.1) far c.put.ensures.1)

@@ -1,4 +1,4 @@
-use mathlib.Core.Path.{sym, ◌∙◌}
+use mathlib.Core.Path.{refl}
 use native.Mathlib.Omega.{arith}
 use Rattle.solve.proofs.SampleLaws.{drive_refused, heard, unheard}
 use Rattle.solve.proofs.sample.sample.Goals as goal
@@ -8,8 +8,8 @@ returns-then-not-drives_legal c =
     let a = c.args in
     unheard {v = a.volts.now} (drive_refused a.board.now a.stretches.now a.volts.now a.stored.now (rw c.if-not-drives_legal.true at c.drives_legal.ensures)) (λ e. omega (arith, e))
 
-pub returns-then-from-eq0 : goal.returns-then-from-eq0
-returns-then-from-eq0 c = heard c.voiced-answer.ensures c.requires.ready.laid.limits.wired (sym c.from.ensures ∙ c.if-from-eq0.true) c.hand_over.ensures
+pub returns-in-Ok : goal.returns-in-Ok
+returns-in-Ok c = heard c.in-Ok.ensures c.requires.ready.laid.limits.wired refl c.hand_over.ensures
 
-pub returns-else-from-eq0 : goal.returns-else-from-eq0
-returns-else-from-eq0 c = unheard c.voiced-answer.ensures (λ e. c.if-from-eq0.false (c.from.ensures ∙ e))
+pub returns-in-Err : goal.returns-in-Err
+returns-in-Err c = let k = c.in-Err.ensures in unheard (k.1 c.args.volts.now) (λ e. omega (arith, e, k.0))

@@ -1,11 +1,28 @@
-use Rattle.solve.proofs.SweepLaws.{down_more}
+use Rattle.solve.proofs.SweepLaws.{down_more, came_out, nowhere_down}
 use Rattle.solve.proofs.settle.settle.Goals as goal
 
-pub returns-in-Out : goal.returns-in-Out
-returns-in-Out c = let k = c.in-Out.ensures in (k.0, λ d z h. k.1 d z (c.loop-sweeps.invariant.1.settling d z h))
+pub returns-in_err-descend : goal.returns-in_err-descend
+returns-in_err-descend c =
+    let k = c.in_err-descend.ensures in
+    (k.0, let a = c.args in came_out a.board.now a.stretches.now a.stored.now a.at.now.volts c.descend.new.at.volts c.from_residual.result c.from_residual.ensures.0 (nowhere_down c.loop-sweeps.invariant.1 k.1))
 
 pub loop-sweeps-preserved-then-sweeps-lt2 : goal.loop-sweeps-preserved-then-sweeps-lt2
-loop-sweeps-preserved-then-sweeps-lt2 c = let k = c.in-Lower.ensures in (k.0, down_more c.loop-sweeps.invariant.1 k.1.down)
+loop-sweeps-preserved-then-sweeps-lt2 c =
+    let k = rw c.if-branch.true at c.in_ok-descend.ensures in
+    (k.0, down_more c.loop-sweeps.invariant.1 k.1.down)
 
 pub loop-sweeps-preserved : goal.loop-sweeps-preserved
-loop-sweeps-preserved c = let k = c.in-Lower.ensures in (k.0, down_more c.loop-sweeps.invariant.1 k.1.down)
+loop-sweeps-preserved c =
+    let k = rw c.if-branch.true at c.in_ok-descend.ensures in
+    (k.0, down_more c.loop-sweeps.invariant.1 k.1.down)
+
+pub loop-sweeps-smaller-then-sweeps-lt2 : goal.loop-sweeps-smaller-then-sweeps-lt2
+loop-sweeps-smaller-then-sweeps-lt2 c = let k = rw c.if-branch.true at c.in_ok-descend.ensures in k.1.falls
+
+pub loop-sweeps-smaller : goal.loop-sweeps-smaller
+loop-sweeps-smaller c = let k = rw c.if-branch.true at c.in_ok-descend.ensures in k.1.falls
+
+pub returns : goal.returns
+returns c =
+    let k = rw c.if-branch.false at c.in_ok-descend.ensures in
+    (k.0, (rw k.1.0 c.loop-sweeps.invariant.1, rw k.1.0 k.1.1))

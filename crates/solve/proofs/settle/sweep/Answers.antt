@@ -1,9 +1,14 @@
-use Rattle.solve.proofs.SweepLaws.{swept_lower}
+use Rattle.solve.proofs.SweepLaws.{swept_more, swept_all, fell_out, nowhere_down}
 use native.Mathlib.Omega.{arith}
 use Rattle.solve.proofs.settle.sweep.Goals as goal
 
-pub loop-i-preserved : goal.loop-i-preserved
-loop-i-preserved c = let k = c.in-Lower.ensures in (omega arith, omega arith, swept_lower c.loop-i.invariant.2 k.0 k.1)
+pub returns-in_err-moved : goal.returns-in_err-moved
+returns-in_err-moved c =
+    let k = c.in_err-moved.ensures in
+    (k.0, let a = c.args in fell_out a.board.now a.stretches.now a.stored.now a.at.now.volts c.step.new.at.volts _ c.from_residual.result c.from_residual.ensures.0 (nowhere_down c.loop-i.invariant.down k.1))
 
-pub returns-in-Out : goal.returns-in-Out
-returns-in-Out c = let k = c.in-Out.ensures in (k.0, λ d z h. k.1 d z (c.loop-i.invariant.2.down.settling d z h))
+pub loop-i-preserved : goal.loop-i-preserved
+loop-i-preserved c = let k = c.in_ok-moved.ensures in swept_more c.loop-i.invariant k.0 c.in_ok-moved.field-0 k.1
+
+pub returns : goal.returns
+returns c = (c.loop-i.invariant.searching, swept_all c.loop-i.invariant (omega (arith, c.nodes-nodes.ensures)))
