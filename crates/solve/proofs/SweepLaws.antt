@@ -14,7 +14,7 @@ use Rattle.network.proofs.Measures.{height_under}
 use Rattle.circuit.specs.Board.{nodes_on, driven_on, network_on}
 use Rattle.std.proofs.Common.{Result, Ok, Err}
 use Rattle.std.proofs.Math.Bool.{or-true, or-false}
-use Rattle.std.specs.Result.{IsErr, is_ok}
+use Rattle.std.specs.Result.{IsErr}
 use Rattle.solve.specs.declared.settle.NoneInRange.{NoneInRange}
 use Rattle.solve.specs.Search.{Searching, LowAt, Down, Lowered, Nowhere, Fell, Came}
 
@@ -92,15 +92,6 @@ module _ (board : List ℕ) (stretches stored before after : List ℤ) where
   pub came_out : (r : Result Unit NoneInRange) → IsErr r → Nowhere board stretches stored before → Came board stretches stored before after r
   came_out (Ok _) e none = absurd (false≢true e)
   came_out (Err _) e none = none
-
-  -- the other way round
-  pub came_low : (r : Result Unit NoneInRange) → is_ok r ≡ true → Came board stretches stored before after r → Down board stretches stored before after × Low (network_on board stretches) (reading stored) (reading after)
-  came_low (Ok _) e came = came
-  came_low (Err _) e none = absurd (false≢true e)
-
-  pub came_nowhere : (r : Result Unit NoneInRange) → is_ok r ≡ false → Came board stretches stored before after r → Nowhere board stretches stored before
-  came_nowhere (Ok _) e came = absurd (false≢true (sym e))
-  came_nowhere (Err _) e none = none
 
 -- what a search finds nothing after, it finds nothing before
 pub nowhere_down : {board : List ℕ} {stretches stored before between : List ℤ} → Down board stretches stored before between → Nowhere board stretches stored between → Nowhere board stretches stored before

@@ -88,12 +88,12 @@ pub fn solve(
 {
     let proposal = seated(board, false, given);
     let mut at = Point::at(board, stretches, stored, proposal);
-    if settle::settle(board, stretches, stored, &mut at).is_ok() {
-        climb::climb(board, stretches, stored, &mut at);
-        return Ok(at.volts);
+    match settle::settle(board, stretches, stored, &mut at) {
+        Ok(()) => {
+            climb::climb(board, stretches, stored, &mut at);
+            Ok(at.volts)
+        }
+        Err(none) if is_start(board, stretches, stored, &proposal) => Err(none),
+        Err(_) => from_top(board, stretches, stored, given),
     }
-    if is_start(board, stretches, stored, &proposal) {
-        return Err(NoneInRange);
-    }
-    from_top(board, stretches, stored, given)
 }
