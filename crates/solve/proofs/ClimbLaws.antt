@@ -63,8 +63,7 @@ module _ {board : List ℕ} {stretches stored z nets s u there : List ℤ} (from
   turned {v} (Ok _) came =
       let own = searching_legal from in
       let k = risen.low _ own low in
-      let above : Under N (reading s) (reading v) = (came.0.settling _ (reading u) (began _ own)).covers (reading s) k.0 k.1 over in
-      (
+      let above : Under N (reading s) (reading v) = (came.0.settling _ (reading u) (began _ own)).covers (reading s) k.0 k.1 over in (
         refl,
         record {
           low = came.1;

@@ -9,7 +9,7 @@ ghost use Rattle.solve.specs.Answer.{seat_of, Seated, Start, Solvable, Solved};
 use crate::point::Point;
 use crate::settle::NoneInRange;
 use crate::{climb, settle};
-use circuit::{board, node, places};
+use circuit::{Circuit, places};
 use units::signed;
 use units::voltage::Voltage;
 
@@ -25,12 +25,12 @@ fn seat_at(top: bool, v: i64) -> i64
 
 // Ground at zero, the driven nodes at their drives and every free node so. Place by place, as a whole
 // array that is copied just after one of its places was stored has to wait for it.
-fn seated(board: &[u64; 293], top: bool, given: &[i64; 16]) -> [i64; 16]
-    requires { (nodes_on board.now ≤ node_limit) × (driven_on board.now ≤ nodes_on board.now) }
-    ensures { Seated board.now top given.now result }
+fn seated(circuit: &Circuit, top: bool, given: &[i64; 16]) -> [i64; 16]
+    requires { (nodes_on circuit.now.board ≤ node_limit) × (driven_on circuit.now.board ≤ nodes_on circuit.now.board) }
+    ensures { Seated circuit.now.board top given.now result }
 {
-    let nodes = board::nodes(board);
-    let first = board::driven(board) + 1;
+    let nodes = circuit.nodes();
+    let first = circuit.driven() + 1;
     let mut volts = [0i64; 16];
     places::take(given, 1, first, &mut volts);
     for i in first..nodes + 1 {
@@ -41,18 +41,13 @@ fn seated(board: &[u64; 293], top: bool, given: &[i64; 16]) -> [i64; 16]
 
 // Whether no low assignment passes these voltages, by document 01's test of a start: net current at or
 // above zero at each free node.
-fn is_start(
-    board: &[u64; 293],
-    stretches: &[i64; 408],
-    stored: &[i64; 32],
-    volts: &[i64; 16],
-) -> bool
-    requires { Evaluable board.now stretches.now stored.now volts.now }
-    ensures { result ≡ true → Start board.now stretches.now stored.now volts.now }
+fn is_start(circuit: &Circuit, stored: &[i64; 32], volts: &[i64; 16]) -> bool
+    requires { Evaluable circuit.now.board circuit.now.stretches stored.now volts.now }
+    ensures { result ≡ true → Start circuit.now.board circuit.now.stretches stored.now volts.now }
 {
-    let nodes = board::nodes(board);
-    for i in board::driven(board) + 1..nodes + 1 {
-        if signed::less(node::net_current(board, stretches, stored, volts, i), 0) {
+    let nodes = circuit.nodes();
+    for i in circuit.driven() + 1..nodes + 1 {
+        if signed::less(circuit.net_current(stored, volts, i), 0) {
             return false;
         }
     }
@@ -61,39 +56,37 @@ fn is_start(
 
 // From the top of the range.
 fn from_top(
-    board: &[u64; 293],
-    stretches: &[i64; 408],
+    circuit: &Circuit,
     stored: &[i64; 32],
     given: &[i64; 16],
 ) -> Result<[i64; 16], NoneInRange>
-    requires { Solvable board.now stretches.now stored.now given.now }
-    ensures { Solved board.now stretches.now stored.now given.now result }
+    requires { Solvable circuit.now.board circuit.now.stretches stored.now given.now }
+    ensures { Solved circuit.now.board circuit.now.stretches stored.now given.now result }
 {
-    let top = seated(board, true, given);
-    let mut at = Point::at(board, stretches, stored, top);
-    settle::settle(board, stretches, stored, &mut at)?;
+    let top = seated(circuit, true, given);
+    let mut at = Point::at(circuit, stored, top);
+    settle::settle(circuit, stored, &mut at)?;
     Ok(at.volts)
 }
 
 // The answer, or that there is none: from the proposal, seated, then settled, certified, climbed. Where there is
 // nothing below it, that decides only if it is a start; else the top of the range does.
 pub fn solve(
-    board: &[u64; 293],
-    stretches: &[i64; 408],
+    circuit: &Circuit,
     stored: &[i64; 32],
     given: &[i64; 16],
 ) -> Result<[i64; 16], NoneInRange>
-    requires { Solvable board.now stretches.now stored.now given.now }
-    ensures { Solved board.now stretches.now stored.now given.now result }
+    requires { Solvable circuit.now.board circuit.now.stretches stored.now given.now }
+    ensures { Solved circuit.now.board circuit.now.stretches stored.now given.now result }
 {
-    let proposal = seated(board, false, given);
-    let mut at = Point::at(board, stretches, stored, proposal);
-    match settle::settle(board, stretches, stored, &mut at) {
+    let proposal = seated(circuit, false, given);
+    let mut at = Point::at(circuit, stored, proposal);
+    match settle::settle(circuit, stored, &mut at) {
         Ok(()) => {
-            climb::climb(board, stretches, stored, &mut at);
+            climb::climb(circuit, stored, &mut at);
             Ok(at.volts)
         }
-        Err(none) if is_start(board, stretches, stored, &proposal) => Err(none),
-        Err(_) => from_top(board, stretches, stored, given),
+        Err(none) if is_start(circuit, stored, &proposal) => Err(none),
+        Err(_) => from_top(circuit, stored, given),
     }
 }

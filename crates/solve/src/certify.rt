@@ -11,7 +11,7 @@ ghost use Rattle.solve.specs.Search.{Searching};
 ghost use Rattle.solve.specs.Visit.{one_up, Raised, Visiting, VisitedAt, VisitedAll, AllGo, Judged};
 
 use crate::point::Point;
-use circuit::{board, shift};
+use circuit::Circuit;
 use units::signed;
 use units::voltage::Voltage;
 
@@ -45,34 +45,27 @@ fn one_up(v: i64) -> i64
 
 // Every free node raised so. They are raised together, so that an element between two of them is not
 // evaluated.
-fn lift(
-    board: &[u64; 293],
-    stretches: &[i64; 408],
-    stored: &[i64; 32],
-    volts: &[i64; 16],
-    up: &mut Point,
-)
-    requires { Searching board.now stretches.now stored.now up.old.volts up.old.nets × (up.old.volts ≡ volts.now) }
-    ensures { Searching board.now stretches.now stored.now up.new.volts up.new.nets × Raised board.now volts.now up.new.volts }
+fn lift(circuit: &Circuit, stored: &[i64; 32], volts: &[i64; 16], up: &mut Point)
+    requires { Searching circuit.now.board circuit.now.stretches stored.now up.old.volts up.old.nets × (up.old.volts ≡ volts.now) }
+    ensures { Searching circuit.now.board circuit.now.stretches stored.now up.new.volts up.new.nets × Raised circuit.now.board volts.now up.new.volts }
 {
-    let nodes = board::nodes(board);
-    for i in board::driven(board) + 1..nodes + 1 {
+    let nodes = circuit.nodes();
+    for i in circuit.driven() + 1..nodes + 1 {
         up.volts[i] = one_up(volts[i]);
     }
-    shift::shift(board, stretches, stored, volts, &up.volts, &mut up.nets);
+    circuit.shift(stored, volts, &up.volts, &mut up.nets);
 }
 
 // One node: if it is above where it was and its net current is above zero, it goes back.
 fn visit_at(
-    board: &[u64; 293],
-    stretches: &[i64; 408],
+    circuit: &Circuit,
     stored: &[i64; 32],
     volts: &[i64; 16],
     i: usize,
     up: &mut Point,
 ) -> Stance
-    requires { Searching board.now stretches.now stored.now up.old.volts up.old.nets × Free (network_on board.now stretches.now) i × Ranged board.now volts.now }
-    ensures { Searching board.now stretches.now stored.now up.new.volts up.new.nets × VisitedAt board.now stretches.now stored.now volts.now up.old.volts up.new.volts i result }
+    requires { Searching circuit.now.board circuit.now.stretches stored.now up.old.volts up.old.nets × Free (network_on circuit.now.board circuit.now.stretches) i × Ranged circuit.now.board volts.now }
+    ensures { Searching circuit.now.board circuit.now.stretches stored.now up.new.volts up.new.nets × VisitedAt circuit.now.board circuit.now.stretches stored.now volts.now up.old.volts up.new.volts i result }
 {
     let v = volts[i];
     if signed::at_most(up.volts[i], v) {
@@ -81,26 +74,20 @@ fn visit_at(
     if signed::at_most(up.nets[i], 0) {
         return Stance::Waits;
     }
-    up.put(board, stretches, stored, i, v);
+    up.put(circuit, stored, i, v);
     Stance::Goes
 }
 
 // One lap, in the order opposite to a sweep's.
-fn visit_all(
-    board: &[u64; 293],
-    stretches: &[i64; 408],
-    stored: &[i64; 32],
-    volts: &[i64; 16],
-    up: &mut Point,
-) -> Lap
-    requires { Visiting board.now stretches.now stored.now volts.now up.old.volts up.old.nets }
-    ensures { Visiting board.now stretches.now stored.now volts.now up.new.volts up.new.nets × VisitedAll board.now stretches.now stored.now volts.now up.old.volts up.new.volts result }
+fn visit_all(circuit: &Circuit, stored: &[i64; 32], volts: &[i64; 16], up: &mut Point) -> Lap
+    requires { Visiting circuit.now.board circuit.now.stretches stored.now volts.now up.old.volts up.old.nets }
+    ensures { Visiting circuit.now.board circuit.now.stretches stored.now volts.now up.new.volts up.new.nets × VisitedAll circuit.now.board circuit.now.stretches stored.now volts.now up.old.volts up.new.volts result }
 {
-    let nodes = board::nodes(board);
+    let nodes = circuit.nodes();
     let mut went = false;
     let mut wait = false;
-    for i in (board::driven(board) + 1..nodes + 1).rev() {
-        match visit_at(board, stretches, stored, volts, i, up) {
+    for i in (circuit.driven() + 1..nodes + 1).rev() {
+        match visit_at(circuit, stored, volts, i, up) {
             Stance::Back => {}
             Stance::Waits => {
                 wait = true;
@@ -130,12 +117,12 @@ fn sticks(v: i64, s: i64, w: i64) -> bool
 }
 
 // Whether every node that waits may go back as they all stand.
-fn all_go(board: &[u64; 293], volts: &[i64; 16], up: &Point) -> bool
-    requires { (nodes_on board.now ≤ 15) × (driven_on board.now ≤ nodes_on board.now) }
-    ensures { result ≡ true → AllGo board.now volts.now up.now.volts up.now.nets }
+fn all_go(circuit: &Circuit, volts: &[i64; 16], up: &Point) -> bool
+    requires { (nodes_on circuit.now.board ≤ 15) × (driven_on circuit.now.board ≤ nodes_on circuit.now.board) }
+    ensures { result ≡ true → AllGo circuit.now.board volts.now up.now.volts up.now.nets }
 {
-    let last = board::nodes(board);
-    for i in board::driven(board) + 1..last + 1 {
+    let last = circuit.nodes();
+    for i in circuit.driven() + 1..last + 1 {
         if sticks(volts[i], up.volts[i], up.nets[i]) {
             return false;
         }
@@ -145,22 +132,17 @@ fn all_go(board: &[u64; 293], volts: &[i64; 16], up: &Point) -> bool
 
 // The whole visit for the voltages of `at`: where it sticks, which is higher and low, or that nothing is. Nodes
 // are moved only if not all may go back at once.
-pub fn certify(
-    board: &[u64; 293],
-    stretches: &[i64; 408],
-    stored: &[i64; 32],
-    at: &Point,
-) -> Option<Point>
-    requires { Searching board.now stretches.now stored.now at.now.volts at.now.nets }
-    ensures { Judged board.now stretches.now stored.now at.now.volts result }
+pub fn certify(circuit: &Circuit, stored: &[i64; 32], at: &Point) -> Option<Point>
+    requires { Searching circuit.now.board circuit.now.stretches stored.now at.now.volts at.now.nets }
+    ensures { Judged circuit.now.board circuit.now.stretches stored.now at.now.volts result }
 {
     let mut up = *at;
-    lift(board, stretches, stored, &at.volts, &mut up);
-    if all_go(board, &at.volts, &up) {
+    lift(circuit, stored, &at.volts, &mut up);
+    if all_go(circuit, &at.volts, &up) {
         return None;
     }
     loop {
-        match visit_all(board, stretches, stored, &at.volts, &mut up) {
+        match visit_all(circuit, stored, &at.volts, &mut up) {
             Lap::Through => {
                 return None;
             }

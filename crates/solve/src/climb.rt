@@ -12,7 +12,7 @@ ghost use Rattle.solve.specs.Climb.{Further, Topped};
 
 use crate::point::Point;
 use crate::{certify, settle};
-use circuit::board;
+use circuit::Circuit;
 use units::signed;
 use units::voltage::Voltage;
 
@@ -42,13 +42,13 @@ fn stride_at(t: u64, v: i64, s: i64, before: i64, after: i64) -> u64
 
 // .. by all of them, `low` being where they rose from and `high` where they are. Nothing else is promised of
 // it: it is a guess.
-fn stride(board: &[u64; 293], low: &Point, high: &Point) -> u64
-    requires { (nodes_on board.now ≤ 15) × (driven_on board.now ≤ nodes_on board.now) }
+fn stride(circuit: &Circuit, low: &Point, high: &Point) -> u64
+    requires { (nodes_on circuit.now.board ≤ 15) × (driven_on circuit.now.board ≤ nodes_on circuit.now.board) }
     ensures { result ≤ 2 ^ 26 }
 {
-    let nodes = board::nodes(board);
+    let nodes = circuit.nodes();
     let mut t: u64 = 67108864;
-    for i in board::driven(board) + 1..nodes + 1 {
+    for i in circuit.driven() + 1..nodes + 1 {
         t = stride_at(t, low.volts[i], high.volts[i], low.nets[i], high.nets[i]);
     }
     t
@@ -96,36 +96,29 @@ fn further(v: i64, s: i64, t: u64) -> i64
 }
 
 // Every free node so.
-fn raise(
-    board: &[u64; 293],
-    stretches: &[i64; 408],
-    stored: &[i64; 32],
-    volts: &[i64; 16],
-    t: u64,
-    high: &mut Point,
-)
-    requires { Searching board.now stretches.now stored.now high.old.volts high.old.nets × (t ≤ 2 ^ 26) }
-    ensures { Searching board.now stretches.now stored.now high.new.volts high.new.nets × Further board.now high.old.volts high.new.volts }
+fn raise(circuit: &Circuit, stored: &[i64; 32], volts: &[i64; 16], t: u64, high: &mut Point)
+    requires { Searching circuit.now.board circuit.now.stretches stored.now high.old.volts high.old.nets × (t ≤ 2 ^ 26) }
+    ensures { Searching circuit.now.board circuit.now.stretches stored.now high.new.volts high.new.nets × Further circuit.now.board high.old.volts high.new.volts }
 {
-    let nodes = board::nodes(board);
-    for i in board::driven(board) + 1..nodes + 1 {
+    let nodes = circuit.nodes();
+    for i in circuit.driven() + 1..nodes + 1 {
         let u = further(volts[i], high.volts[i], t);
-        high.put(board, stretches, stored, i, u);
+        high.put(circuit, stored, i, u);
     }
 }
 
 // Climb: certified, or higher and certified again.
-pub fn climb(board: &[u64; 293], stretches: &[i64; 408], stored: &[i64; 32], at: &mut Point)
-    requires { Searching board.now stretches.now stored.now at.old.volts at.old.nets × Low (network_on board.now stretches.now) (reading stored.now) (reading at.old.volts) }
-    ensures { Topped board.now stretches.now stored.now at.old.volts at.new.volts }
+pub fn climb(circuit: &Circuit, stored: &[i64; 32], at: &mut Point)
+    requires { Searching circuit.now.board circuit.now.stretches stored.now at.old.volts at.old.nets × Low (network_on circuit.now.board circuit.now.stretches) (reading stored.now) (reading at.old.volts) }
+    ensures { Topped circuit.now.board circuit.now.stretches stored.now at.old.volts at.new.volts }
 {
     let mut reach: u64 = 0;
-    while let Some(higher) = certify::certify(board, stretches, stored, at) {
-        let t = farther(stride(board, at, &higher), reach);
+    while let Some(higher) = certify::certify(circuit, stored, at) {
+        let t = farther(stride(circuit, at, &higher), reach);
         reach = onward(reach);
         let mut high = higher;
-        raise(board, stretches, stored, &at.volts, t, &mut high);
+        raise(circuit, stored, &at.volts, t, &mut high);
         *at = high;
-        settle::settle(board, stretches, stored, at).unwrap();
+        settle::settle(circuit, stored, at).unwrap();
     }
 }

@@ -8,7 +8,7 @@ ghost use Rattle.solve.specs.Search.{Searching, Down};
 ghost use Rattle.solve.specs.Leap.{Reached, Led, Sinkable, LandedAt, Lands};
 
 use crate::point::Point;
-use circuit::board;
+use circuit::Circuit;
 use units::signed;
 use units::voltage::Voltage;
 
@@ -37,44 +37,42 @@ fn reached(b: i64, v: i64, m: u64) -> i64
 
 // All free nodes so.
 fn lead(
-    board: &[u64; 293],
-    stretches: &[i64; 408],
+    circuit: &Circuit,
     stored: &[i64; 32],
     from: &[i64; 16],
     volts: &[i64; 16],
     m: u64,
     far: &mut Point,
 )
-    requires { Searching board.now stretches.now stored.now far.old.volts far.old.nets × Ranged board.now from.now × (m ≤ 2 ^ 26) × (far.old.volts ≡ volts.now) }
-    ensures { Searching board.now stretches.now stored.now far.new.volts far.new.nets × Led board.now volts.now far.new.volts }
+    requires { Searching circuit.now.board circuit.now.stretches stored.now far.old.volts far.old.nets × Ranged circuit.now.board from.now × (m ≤ 2 ^ 26) × (far.old.volts ≡ volts.now) }
+    ensures { Searching circuit.now.board circuit.now.stretches stored.now far.new.volts far.new.nets × Led circuit.now.board volts.now far.new.volts }
 {
-    let nodes = board::nodes(board);
-    for i in board::driven(board) + 1..nodes + 1 {
+    let nodes = circuit.nodes();
+    for i in circuit.driven() + 1..nodes + 1 {
         let u = reached(from[i], volts[i], m);
-        far.put(board, stretches, stored, i, u);
+        far.put(circuit, stored, i, u);
     }
 }
 
 // Whether some node leapt. Nothing is promised of it: it only ends the leaps.
-fn leapt(board: &[u64; 293], volts: &[i64; 16], far: &[i64; 16]) -> bool
-    requires { (nodes_on board.now ≤ 15) × (driven_on board.now ≤ nodes_on board.now) }
+fn leapt(circuit: &Circuit, volts: &[i64; 16], far: &[i64; 16]) -> bool
+    requires { (nodes_on circuit.now.board ≤ 15) × (driven_on circuit.now.board ≤ nodes_on circuit.now.board) }
 {
-    let nodes = board::nodes(board);
-    (board::driven(board) + 1..nodes + 1).any(|i| signed::less(far[i], volts[i]))
+    let nodes = circuit.nodes();
+    (circuit.driven() + 1..nodes + 1).any(|i| signed::less(far[i], volts[i]))
 }
 
 // One node at the far end. If it leapt, its net current has to be above zero there, and it is lowered by
 // one more. False if that isn't so.
 fn land_at(
-    board: &[u64; 293],
-    stretches: &[i64; 408],
+    circuit: &Circuit,
     stored: &[i64; 32],
     volts: &[i64; 16],
     i: usize,
     far: &mut Point,
 ) -> bool
-    requires { Searching board.now stretches.now stored.now far.old.volts far.old.nets × Free (network_on board.now stretches.now) i × (reading far.old.volts i <ℤ reading volts.now i → bottom <ℤ reading far.old.volts i) }
-    ensures { Searching board.now stretches.now stored.now far.new.volts far.new.nets × (result ≡ true → LandedAt board.now stretches.now stored.now volts.now far.old.volts i far.new.volts) }
+    requires { Searching circuit.now.board circuit.now.stretches stored.now far.old.volts far.old.nets × Free (network_on circuit.now.board circuit.now.stretches) i × (reading far.old.volts i <ℤ reading volts.now i → bottom <ℤ reading far.old.volts i) }
+    ensures { Searching circuit.now.board circuit.now.stretches stored.now far.new.volts far.new.nets × (result ≡ true → LandedAt circuit.now.board circuit.now.stretches stored.now volts.now far.old.volts i far.new.volts) }
 {
     let u = far.volts[i];
     if signed::at_most(volts[i], u) {
@@ -84,24 +82,18 @@ fn land_at(
         return false;
     }
     let down = signed::minus(u, 1);
-    far.put(board, stretches, stored, i, down);
+    far.put(circuit, stored, i, down);
     true
 }
 
 // Every free node so, in the order of their numbers. False as soon as one is.
-fn land(
-    board: &[u64; 293],
-    stretches: &[i64; 408],
-    stored: &[i64; 32],
-    volts: &[i64; 16],
-    far: &mut Point,
-) -> bool
-    requires { Searching board.now stretches.now stored.now far.old.volts far.old.nets × Sinkable board.now volts.now far.old.volts }
-    ensures { Searching board.now stretches.now stored.now far.new.volts far.new.nets × (result ≡ true → Lands board.now stretches.now stored.now volts.now far.old.volts far.new.volts) }
+fn land(circuit: &Circuit, stored: &[i64; 32], volts: &[i64; 16], far: &mut Point) -> bool
+    requires { Searching circuit.now.board circuit.now.stretches stored.now far.old.volts far.old.nets × Sinkable circuit.now.board volts.now far.old.volts }
+    ensures { Searching circuit.now.board circuit.now.stretches stored.now far.new.volts far.new.nets × (result ≡ true → Lands circuit.now.board circuit.now.stretches stored.now volts.now far.old.volts far.new.volts) }
 {
-    let nodes = board::nodes(board);
-    for i in board::driven(board) + 1..nodes + 1 {
-        if !land_at(board, stretches, stored, volts, i, far) {
+    let nodes = circuit.nodes();
+    for i in circuit.driven() + 1..nodes + 1 {
+        if !land_at(circuit, stored, volts, i, far) {
             return false;
         }
     }
@@ -110,23 +102,16 @@ fn land(
 
 // Leap: the nodes that came from `from` to where they are go m times as far again, if the far end proves it.
 // Whether some node did.
-fn leap(
-    board: &[u64; 293],
-    stretches: &[i64; 408],
-    stored: &[i64; 32],
-    from: &[i64; 16],
-    m: u64,
-    at: &mut Point,
-) -> bool
-    requires { Searching board.now stretches.now stored.now at.old.volts at.old.nets × Ranged board.now from.now × (m ≤ 2 ^ 26) }
-    ensures { Searching board.now stretches.now stored.now at.new.volts at.new.nets × Down board.now stretches.now stored.now at.old.volts at.new.volts }
+fn leap(circuit: &Circuit, stored: &[i64; 32], from: &[i64; 16], m: u64, at: &mut Point) -> bool
+    requires { Searching circuit.now.board circuit.now.stretches stored.now at.old.volts at.old.nets × Ranged circuit.now.board from.now × (m ≤ 2 ^ 26) }
+    ensures { Searching circuit.now.board circuit.now.stretches stored.now at.new.volts at.new.nets × Down circuit.now.board circuit.now.stretches stored.now at.old.volts at.new.volts }
 {
     let mut far = *at;
-    lead(board, stretches, stored, from, &at.volts, m, &mut far);
-    if !leapt(board, &at.volts, &far.volts) {
+    lead(circuit, stored, from, &at.volts, m, &mut far);
+    if !leapt(circuit, &at.volts, &far.volts) {
         return false;
     }
-    if land(board, stretches, stored, &at.volts, &mut far) {
+    if land(circuit, stored, &at.volts, &mut far) {
         *at = far;
         return true;
     }
@@ -134,18 +119,12 @@ fn leap(
 }
 
 // Leaps of one, two, four .. times what was gained, as long as they hold and some node leaps.
-pub fn leaps(
-    board: &[u64; 293],
-    stretches: &[i64; 408],
-    stored: &[i64; 32],
-    from: &[i64; 16],
-    at: &mut Point,
-)
-    requires { Searching board.now stretches.now stored.now at.old.volts at.old.nets × Ranged board.now from.now }
-    ensures { Searching board.now stretches.now stored.now at.new.volts at.new.nets × Down board.now stretches.now stored.now at.old.volts at.new.volts }
+pub fn leaps(circuit: &Circuit, stored: &[i64; 32], from: &[i64; 16], at: &mut Point)
+    requires { Searching circuit.now.board circuit.now.stretches stored.now at.old.volts at.old.nets × Ranged circuit.now.board from.now }
+    ensures { Searching circuit.now.board circuit.now.stretches stored.now at.new.volts at.new.nets × Down circuit.now.board circuit.now.stretches stored.now at.old.volts at.new.volts }
 {
     let mut m: u64 = 1;
-    while m < 67108864 && leap(board, stretches, stored, from, m, at) {
+    while m < 67108864 && leap(circuit, stored, from, m, at) {
         m = 2 * m;
     }
 }

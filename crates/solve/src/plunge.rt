@@ -8,6 +8,7 @@ ghost use Rattle.circuit.specs.Board.{network_on};
 ghost use Rattle.solve.specs.Search.{Searching, Down};
 
 use crate::point::Point;
+use circuit::Circuit;
 use units::signed;
 use units::voltage::Voltage;
 
@@ -59,17 +60,9 @@ fn is_high(nets: &[i64; 16], i: usize) -> bool
 }
 
 // Node i, whose net current was `before` at b, sinks on so, if its net current is above zero there too.
-pub fn plunge(
-    board: &[u64; 293],
-    stretches: &[i64; 408],
-    stored: &[i64; 32],
-    i: usize,
-    b: i64,
-    before: i64,
-    at: &mut Point,
-)
-    requires { Searching board.now stretches.now stored.now at.old.volts at.old.nets × Free (network_on board.now stretches.now) i × InRange b }
-    ensures { Searching board.now stretches.now stored.now at.new.volts at.new.nets × Down board.now stretches.now stored.now at.old.volts at.new.volts }
+pub fn plunge(circuit: &Circuit, stored: &[i64; 32], i: usize, b: i64, before: i64, at: &mut Point)
+    requires { Searching circuit.now.board circuit.now.stretches stored.now at.old.volts at.old.nets × Free (network_on circuit.now.board circuit.now.stretches) i × InRange b }
+    ensures { Searching circuit.now.board circuit.now.stretches stored.now at.new.volts at.new.nets × Down circuit.now.board circuit.now.stretches stored.now at.old.volts at.new.volts }
 {
     if !is_high(&at.nets, i) {
         return;
@@ -81,7 +74,7 @@ pub fn plunge(
     }
     let u = sunk(v, t);
     let mut far = *at;
-    far.put(board, stretches, stored, i, u);
+    far.put(circuit, stored, i, u);
     if is_high(&far.nets, i) {
         *at = far;
     }

@@ -6,7 +6,7 @@ ghost use Rattle.circuit.specs.Board.{network_on, Evaluable};
 ghost use Rattle.circuit.specs.Nets.{Netted};
 ghost use Rattle.solve.specs.Search.{Searching};
 
-use circuit::nets;
+use circuit::Circuit;
 
 #[derive(Clone, Copy)]
 pub struct Point {
@@ -16,43 +16,23 @@ pub struct Point {
 
 impl Point {
     // These voltages and their net currents.
-    pub fn at(
-        board: &[u64; 293],
-        stretches: &[i64; 408],
-        stored: &[i64; 32],
-        volts: [i64; 16],
-    ) -> Point
-        requires { Evaluable board.now stretches.now stored.now volts }
-        ensures { (result.volts ≡ volts) × Netted board.now stretches.now stored.now result.volts result.nets }
+    pub fn at(circuit: &Circuit, stored: &[i64; 32], volts: [i64; 16]) -> Point
+        requires { Evaluable circuit.now.board circuit.now.stretches stored.now volts }
+        ensures { (result.volts ≡ volts) × Netted circuit.now.board circuit.now.stretches stored.now result.volts result.nets }
     {
-        let nets = nets::taken(board, stretches, stored, &volts);
+        let nets = circuit.net_currents(stored, &volts);
         Point { volts, nets }
     }
 
     // Node i moved to v: its net currents stay those of its voltages. Where it stands there already, none of
     // its elements is looked at.
-    pub fn put(
-        &mut self,
-        board: &[u64; 293],
-        stretches: &[i64; 408],
-        stored: &[i64; 32],
-        i: usize,
-        v: i64,
-    )
-        requires { Searching board.now stretches.now stored.now self.old.volts self.old.nets × Free (network_on board.now stretches.now) i × InRange v }
-        ensures { Searching board.now stretches.now stored.now self.new.volts self.new.nets × (self.new.volts ≡ set self.old.volts i v) }
+    pub fn put(&mut self, circuit: &Circuit, stored: &[i64; 32], i: usize, v: i64)
+        requires { Searching circuit.now.board circuit.now.stretches stored.now self.old.volts self.old.nets × Free (network_on circuit.now.board circuit.now.stretches) i × InRange v }
+        ensures { Searching circuit.now.board circuit.now.stretches stored.now self.new.volts self.new.nets × (self.new.volts ≡ set self.old.volts i v) }
     {
         if self.volts[i] == v {
             return;
         }
-        nets::move_to(
-            board,
-            stretches,
-            stored,
-            i,
-            v,
-            &mut self.volts,
-            &mut self.nets,
-        );
+        circuit.move_to(stored, i, v, &mut self.volts, &mut self.nets);
     }
 }

@@ -1,22 +1,24 @@
 // One sample: its drives tested, its voltages found, its stored currents advanced. Each refusal leaves
 // the stored currents as they were.
 ghost use Rattle.std.specs.Prelude.{true, ◌≡◌, ◌+◌, ◌≤◌, ◌<◌, length};
+ghost use Rattle.units.specs.declared.number.Number.TheVariants.{Rail};
 ghost use Rattle.circuit.specs.Board.{nodes_on, driven_on, network_on};
 ghost use Rattle.circuit.specs.Places.{Taken};
 ghost use Rattle.solve.specs.Answer.{drives_at};
 ghost use Rattle.solve.specs.Sample.{DrivesTested, TopTested, Playable, Voiced, Leaves};
 
 use crate::answer;
-use circuit::{advance, board, places};
+use crate::settle::NoneInRange;
+use circuit::{Circuit, places};
 use units::number::Number;
 use units::voltage::Voltage;
 
 // Whether every driven node stands at a legal drive.
-fn drives_legal(board: &[u64; 293], volts: &[i64; 16]) -> bool
-    requires { driven_on board.now ≤ 15 }
-    ensures { DrivesTested board.now volts.now result }
+fn drives_legal(circuit: &Circuit, volts: &[i64; 16]) -> bool
+    requires { driven_on circuit.now.board ≤ 15 }
+    ensures { DrivesTested circuit.now.board volts.now result }
 {
-    for j in 0..board::driven(board) {
+    for j in 0..circuit.driven() {
         let v = Voltage {
             microvolts: volts[j + 1],
         };
@@ -28,12 +30,12 @@ fn drives_legal(board: &[u64; 293], volts: &[i64; 16]) -> bool
 }
 
 // Whether some free node stands at the top of the range.
-fn at_top(board: &[u64; 293], volts: &[i64; 16]) -> bool
-    requires { (nodes_on board.now ≤ 15) × (driven_on board.now ≤ nodes_on board.now) }
-    ensures { TopTested board.now volts.now result }
+fn at_top(circuit: &Circuit, volts: &[i64; 16]) -> bool
+    requires { (nodes_on circuit.now.board ≤ 15) × (driven_on circuit.now.board ≤ nodes_on circuit.now.board) }
+    ensures { TopTested circuit.now.board volts.now result }
 {
-    let nodes = board::nodes(board);
-    for i in board::driven(board) + 1..nodes + 1 {
+    let nodes = circuit.nodes();
+    for i in circuit.driven() + 1..nodes + 1 {
         let v = Voltage {
             microvolts: volts[i],
         };
@@ -44,58 +46,53 @@ fn at_top(board: &[u64; 293], volts: &[i64; 16]) -> bool
     false
 }
 
+// Where there is no answer in range, that is the number.
+impl From<NoneInRange> for Number {
+    ghost from_gives = { λ _ number. number ≡ Rail };
+
+    fn from(_none: NoneInRange) -> Number {
+        Number::Rail
+    }
+}
+
 // A sample whose drives are legal: its voltages, or the number of its refusal.
-fn voiced(
-    board: &[u64; 293],
-    stretches: &[i64; 408],
-    given: &[i64; 16],
-    stored: &mut [i64; 32],
-) -> Result<[i64; 16], Number>
-    requires { Playable board.now stretches.now stored.old × DrivesTested board.now given.now true }
-    ensures { Voiced (network_on board.now stretches.now) (drives_at given.now) stored.old stored.new result }
+fn voiced(circuit: &Circuit, given: &[i64; 16], stored: &mut [i64; 32]) -> Result<[i64; 16], Number>
+    requires { Playable circuit.now.board circuit.now.stretches stored.old × DrivesTested circuit.now.board given.now true }
+    ensures { Voiced (network_on circuit.now.board circuit.now.stretches) (drives_at given.now) stored.old stored.new result }
 {
-    match answer::solve(board, stretches, stored, given) {
-        Err(_) => Err(Number::Rail),
-        Ok(found) => {
-            if at_top(board, &found) {
-                return Err(Number::Rail);
-            }
-            match advance::advance(board, stretches, &found, stored) {
-                advance::Advanced::Stored => Ok(found),
-                advance::Advanced::Beyond => Err(Number::Stored),
-            }
-        }
+    let found = answer::solve(circuit, stored, given)?;
+    if at_top(circuit, &found) {
+        return Err(Number::Rail);
+    }
+    match circuit.advance(&found, stored) {
+        Ok(()) => Ok(found),
+        Err(_) => Err(Number::Stored),
     }
 }
 
 // The nodes of an accepted sample taken over. That there are 16 places a reference does not tell, and a
 // copy does; it is not used, and the compiler leaves it out.
-fn hand_over(board: &[u64; 293], found: &[i64; 16], volts: &mut [i64; 16])
-    requires { nodes_on board.now ≤ 15 }
-    ensures { Taken found.now 0 (nodes_on board.now + 1) volts.old volts.new }
+fn hand_over(circuit: &Circuit, found: &[i64; 16], volts: &mut [i64; 16])
+    requires { nodes_on circuit.now.board ≤ 15 }
+    ensures { Taken found.now 0 (nodes_on circuit.now.board + 1) volts.old volts.new }
 {
     places::copied(volts);
-    places::take(found, 0, board::nodes(board) + 1, volts);
+    places::take(found, 0, circuit.nodes() + 1, volts);
 }
 
 // The driven nodes stand at the sample's drives; the free nodes at any proposal. The search has an array
 // of its own, so that a refusal leaves the voltages too.
-pub fn sample(
-    board: &[u64; 293],
-    stretches: &[i64; 408],
-    volts: &mut [i64; 16],
-    stored: &mut [i64; 32],
-) -> Number
-    requires { Playable board.now stretches.now stored.old }
-    ensures { Leaves (network_on board.now stretches.now) stored.old stored.new volts.old volts.new result }
+pub fn sample(circuit: &Circuit, volts: &mut [i64; 16], stored: &mut [i64; 32]) -> Number
+    requires { Playable circuit.now.board circuit.now.stretches stored.old }
+    ensures { Leaves (network_on circuit.now.board circuit.now.stretches) stored.old stored.new volts.old volts.new result }
 {
-    if !drives_legal(board, volts) {
+    if !drives_legal(circuit, volts) {
         return Number::Drive;
     }
-    match voiced(board, stretches, volts, stored) {
+    match voiced(circuit, volts, stored) {
         Err(number) => number,
         Ok(found) => {
-            hand_over(board, &found, volts);
+            hand_over(circuit, &found, volts);
             Number::Done
         }
     }

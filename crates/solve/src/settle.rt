@@ -13,7 +13,7 @@ ghost use Rattle.solve.specs.Search.{Searching, Fell, LowAt, net_bound, Came};
 
 use crate::point::Point;
 use crate::{leap, plunge};
-use circuit::board;
+use circuit::Circuit;
 use units::signed;
 use units::voltage::Voltage;
 
@@ -32,82 +32,70 @@ fn lower_by(v: i64, f: i64, s: u64) -> i64
 // Step: one node lowered by as much as its steepest sum allows, where its net current is above zero, and
 // then further if that left much of it. Whether it was lowered.
 fn step(
-    board: &[u64; 293],
-    stretches: &[i64; 408],
+    circuit: &Circuit,
     stored: &[i64; 32],
     at: &mut Point,
     i: usize,
 ) -> Result<bool, NoneInRange>
-    requires { Searching board.now stretches.now stored.now at.old.volts at.old.nets × Free (network_on board.now stretches.now) i }
-    ensures { Searching board.now stretches.now stored.now at.new.volts at.new.nets × Fell (LowAt board.now stretches.now stored.now at.old.volts i) board.now stretches.now stored.now at.old.volts at.new.volts result }
+    requires { Searching circuit.now.board circuit.now.stretches stored.now at.old.volts at.old.nets × Free (network_on circuit.now.board circuit.now.stretches) i }
+    ensures { Searching circuit.now.board circuit.now.stretches stored.now at.new.volts at.new.nets × Fell (LowAt circuit.now.board circuit.now.stretches stored.now at.old.volts i) circuit.now.board circuit.now.stretches stored.now at.old.volts at.new.volts result }
 {
     let f = at.nets[i];
     if signed::at_most(f, 0) {
         return Ok(false);
     }
     let from = at.volts[i];
-    let v = lower_by(from, f, board::steepest(board, i));
+    let v = lower_by(from, f, circuit.steepest_sum(i));
     let u = Voltage { microvolts: v };
     if !u.in_range() {
         return Err(NoneInRange);
     }
-    at.put(board, stretches, stored, i, v);
-    plunge::plunge(board, stretches, stored, i, from, f, at);
+    at.put(circuit, stored, i, v);
+    plunge::plunge(circuit, stored, i, from, f, at);
     Ok(true)
 }
 
 // A step at every free node, in the order of their numbers. Whether one was lowered.
-fn sweep(
-    board: &[u64; 293],
-    stretches: &[i64; 408],
-    stored: &[i64; 32],
-    at: &mut Point,
-) -> Result<bool, NoneInRange>
-    requires { Searching board.now stretches.now stored.now at.old.volts at.old.nets }
-    ensures { Searching board.now stretches.now stored.now at.new.volts at.new.nets × Fell (Low (network_on board.now stretches.now) (reading stored.now) (reading at.old.volts)) board.now stretches.now stored.now at.old.volts at.new.volts result }
+fn sweep(circuit: &Circuit, stored: &[i64; 32], at: &mut Point) -> Result<bool, NoneInRange>
+    requires { Searching circuit.now.board circuit.now.stretches stored.now at.old.volts at.old.nets }
+    ensures { Searching circuit.now.board circuit.now.stretches stored.now at.new.volts at.new.nets × Fell (Low (network_on circuit.now.board circuit.now.stretches) (reading stored.now) (reading at.old.volts)) circuit.now.board circuit.now.stretches stored.now at.old.volts at.new.volts result }
 {
-    let nodes = board::nodes(board);
+    let nodes = circuit.nodes();
     let mut moved = false;
-    for i in board::driven(board) + 1..nodes + 1 {
-        moved |= step(board, stretches, stored, at, i)?;
+    for i in circuit.driven() + 1..nodes + 1 {
+        moved |= step(circuit, stored, at, i)?;
     }
     Ok(moved)
 }
 
 // A sweep, and after two of them also leaps of what sank in it.
 fn descend(
-    board: &[u64; 293],
-    stretches: &[i64; 408],
+    circuit: &Circuit,
     stored: &[i64; 32],
     sweeps: u64,
     at: &mut Point,
 ) -> Result<bool, NoneInRange>
-    requires { Searching board.now stretches.now stored.now at.old.volts at.old.nets }
-    ensures { Searching board.now stretches.now stored.now at.new.volts at.new.nets × Fell (Low (network_on board.now stretches.now) (reading stored.now) (reading at.old.volts)) board.now stretches.now stored.now at.old.volts at.new.volts result }
+    requires { Searching circuit.now.board circuit.now.stretches stored.now at.old.volts at.old.nets }
+    ensures { Searching circuit.now.board circuit.now.stretches stored.now at.new.volts at.new.nets × Fell (Low (network_on circuit.now.board circuit.now.stretches) (reading stored.now) (reading at.old.volts)) circuit.now.board circuit.now.stretches stored.now at.old.volts at.new.volts result }
 {
     if sweeps < 2 {
-        return sweep(board, stretches, stored, at);
+        return sweep(circuit, stored, at);
     }
     let before = at.volts;
-    let moved = sweep(board, stretches, stored, at)?;
+    let moved = sweep(circuit, stored, at)?;
     if moved {
-        leap::leaps(board, stretches, stored, &before, at);
+        leap::leaps(circuit, stored, &before, at);
     }
     Ok(moved)
 }
 
 // Settle: sweeps and leaps until no net current is above zero.
-pub fn settle(
-    board: &[u64; 293],
-    stretches: &[i64; 408],
-    stored: &[i64; 32],
-    at: &mut Point,
-) -> Result<(), NoneInRange>
-    requires { Searching board.now stretches.now stored.now at.old.volts at.old.nets }
-    ensures { Searching board.now stretches.now stored.now at.new.volts at.new.nets × Came board.now stretches.now stored.now at.old.volts at.new.volts result }
+pub fn settle(circuit: &Circuit, stored: &[i64; 32], at: &mut Point) -> Result<(), NoneInRange>
+    requires { Searching circuit.now.board circuit.now.stretches stored.now at.old.volts at.old.nets }
+    ensures { Searching circuit.now.board circuit.now.stretches stored.now at.new.volts at.new.nets × Came circuit.now.board circuit.now.stretches stored.now at.old.volts at.new.volts result }
 {
     let mut sweeps: u64 = 0;
-    while descend(board, stretches, stored, sweeps, at)? {
+    while descend(circuit, stored, sweeps, at)? {
         if sweeps < 2 {
             sweeps += 1;
         }

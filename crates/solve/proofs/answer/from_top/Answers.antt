@@ -11,10 +11,10 @@ pub returns-in_err-settle : goal.returns-in_err-settle
 returns-in_err-settle c =
     let a = c.args in
     let k = rw c.at-at.ensures.0 at c.in_err-settle.ensures in
-    solved_empty a.board.now a.stretches.now a.stored.now a.given.now c.from_residual.result c.from_residual.ensures.0 (top_nothing a.board.now a.stretches.now a.stored.now a.given.now c.seated-top.ensures k.1)
+    solved_empty a.circuit.now.board a.circuit.now.stretches a.stored.now a.given.now c.from_residual.result c.from_residual.ensures.0 (top_nothing a.circuit.now.board a.circuit.now.stretches a.stored.now a.given.now c.seated-top.ensures k.1)
 
 pub returns : goal.returns
 returns c =
     let a = c.args in
     let k = rw c.at-at.ensures.0 at c.in_ok-settle.ensures in
-    top_found a.board.now a.stretches.now a.stored.now a.given.now c.seated-top.ensures c.settle.new.at.volts k.1.0 k.1.1
+    top_found a.circuit.now.board a.circuit.now.stretches a.stored.now a.given.now c.seated-top.ensures c.settle.new.at.volts k.1.0 k.1.1

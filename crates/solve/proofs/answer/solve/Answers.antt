@@ -11,7 +11,7 @@ pub returns-in-Ok : goal.returns-in-Ok
 returns-in-Ok c =
     let a = c.args in
     let k = rw c.at-at.ensures.0 at c.in-Ok.ensures in
-    climbed a.board.now a.stretches.now a.stored.now a.given.now c.seated-proposal.ensures c.settle.new.at.volts c.climb.new.at.volts k.1.0 c.climb.ensures
+    climbed a.circuit.now.board a.circuit.now.stretches a.stored.now a.given.now c.seated-proposal.ensures c.settle.new.at.volts c.climb.new.at.volts k.1.0 c.climb.ensures
 
 pub is_start-requires : goal.is_start-requires
 is_start-requires c = seated_evaluable c.seated-proposal.ensures c.requires
@@ -20,4 +20,4 @@ pub returns-in-Err : goal.returns-in-Err
 returns-in-Err c =
     let a = c.args in
     let k = rw c.at-at.ensures.0 at c.in-Err.ensures in
-    start_nothing a.board.now a.stretches.now a.stored.now a.given.now c.seated-proposal.ensures c.requires (c.is_start.ensures c.if-is_start.true) k.1
+    start_nothing a.circuit.now.board a.circuit.now.stretches a.stored.now a.given.now c.seated-proposal.ensures c.requires (c.is_start.ensures c.if-is_start.true) k.1

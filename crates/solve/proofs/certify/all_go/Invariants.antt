@@ -6,4 +6,4 @@ use Rattle.circuit.specs.Board.{driven_on}
 use Rattle.solve.proofs.certify.all_go.Given as goal
 
 abbrev pub invariant-loop-i : goal.invariant-loop-i
-invariant-loop-i l = (k : ℕ) → k < l.i → driven_on l.board < k → reading l.volts k <ℤ reading l.up.volts k → pos 0 <ℤ reading l.up.nets k
+invariant-loop-i l = (k : ℕ) → k < l.i → driven_on l.circuit.board < k → reading l.volts k <ℤ reading l.up.volts k → pos 0 <ℤ reading l.up.nets k

@@ -7,4 +7,4 @@ use Rattle.solve.specs.Visit.{one_up}
 use Rattle.solve.proofs.certify.lift.Given as goal
 
 abbrev pub invariant-loop-i : goal.invariant-loop-i
-invariant-loop-i l = (l.up.nets ≡ l.initial.up.nets) × Changed (λ (j : ℕ) (u : ℤ). u ≡ one_up (reading l.volts j)) l.board l.volts l.up.volts l.i
+invariant-loop-i l = (l.up.nets ≡ l.initial.up.nets) × Changed (λ (j : ℕ) (u : ℤ). u ≡ one_up (reading l.volts j)) l.circuit.board l.volts l.up.volts l.i

@@ -3,7 +3,7 @@ use Rattle.solve.proofs.ClimbLaws.{Turned, turned}
 use Rattle.solve.proofs.climb.climb.Goals as goal
 
 -- what the turn came to
-turn : (c : goal.After-settle) → IsOk c.settle.result × Turned c.args.board.now c.args.stretches.now c.args.stored.now c.loop-higher.at.volts c.settle.new.at.volts
+turn : (c : goal.After-settle) → IsOk c.settle.result × Turned c.args.circuit.now.board c.args.circuit.now.stretches c.args.stored.now c.loop-higher.at.volts c.settle.new.at.volts
 turn c =
     let h = c.loop-higher.invariant in
     let k = c.raise.ensures in

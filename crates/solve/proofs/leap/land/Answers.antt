@@ -9,6 +9,6 @@ loop-i-init c = rw c.driven-i.ensures (lands_none c.requires.0)
 
 pub loop-i-preserved : goal.loop-i-preserved
 loop-i-preserved c =
-    let free : Free (network_on c.args.board.now c.args.stretches.now) c.loop-i.i = (omega (arith, c.driven-i.ensures), omega (arith, c.nodes-nodes.ensures)) in
+    let free : Free (network_on c.args.circuit.now.board c.args.circuit.now.stretches) c.loop-i.i = (omega (arith, c.driven-i.ensures), omega (arith, c.nodes-nodes.ensures)) in
     let k = c.land_at.ensures in
     lands_next c.loop-i.invariant free (k.1 c.if-not-land_at.false) k.0

@@ -23,5 +23,5 @@ returns c =
     let at-volts : to_z w64 (of_z w64 (reading c.args.volts.now c.args.i)) ≡ reading c.args.volts.now c.args.i = search rules in
     let leapt : reading c.args.far.now.volts c.args.i <ℤ reading c.args.volts.now c.args.i = le_z_false _ _ (sym (rw (at-volts, at-far) at c.at_most.ensures) ∙ c.if-at_most.false) in
     let e : to_z w64 (of_z w64 (reading c.args.far.now.nets c.args.i)) ≡ reading c.args.far.now.nets c.args.i = search rules in
-    let high : pos 0 <ℤ net 1 (network_on c.args.board.now c.args.stretches.now) (reading c.args.stored.now) (reading c.args.far.now.volts) c.args.i = le_z_false _ _ (sym (rw (e ∙ c.requires.0.netted.each c.args.i c.requires.1.1) at c.at_most-2.ensures) ∙ c.if-at_most-2.false) in
+    let high : pos 0 <ℤ net 1 (network_on c.args.circuit.now.board c.args.circuit.now.stretches) (reading c.args.stored.now) (reading c.args.far.now.volts) c.args.i = le_z_false _ _ (sym (rw (e ∙ c.requires.0.netted.each c.args.i c.requires.1.1) at c.at_most-2.ensures) ∙ c.if-at_most-2.false) in
     (c.put.ensures.0, λ t. rw (c.put.ensures.1, lower) (sinks leapt high))

@@ -12,7 +12,7 @@ use Rattle.solve.proofs.leap.lead.Goals as goal
 pub loop-i-preserved : goal.loop-i-preserved
 loop-i-preserved c =
     let l = c.loop-i in
-    let free : Free (network_on c.args.board.now c.args.stretches.now) c.loop-i.i = (omega (arith, c.driven-i.ensures), omega (arith, c.nodes-nodes.ensures)) in
+    let free : Free (network_on c.args.circuit.now.board c.args.circuit.now.stretches) c.loop-i.i = (omega (arith, c.driven-i.ensures), omega (arith, c.nodes-nodes.ensures)) in
     let at-volts : to_z w64 (of_z w64 (reading c.args.volts.now c.loop-i.i)) ≡ reading c.args.volts.now c.loop-i.i = search rules in
     let e : to_z w64 (of_z w64 c.reached-u.result) ≡ c.reached-u.result = search rules in
     let far : Reached (reading c.args.volts.now c.loop-i.i) (to_z w64 (of_z w64 c.reached-u.result)) = rw e (rw at-volts at c.reached-u.ensures) in

@@ -7,4 +7,4 @@ use Rattle.circuit.specs.Board.{driven_on}
 use Rattle.solve.proofs.sample.at_top.Given as goal
 
 abbrev pub invariant-loop-i : goal.invariant-loop-i
-invariant-loop-i l = (k : ℕ) → k < l.i → driven_on l.board < k → reading l.volts k <ℤ pos voltage_limit
+invariant-loop-i l = (k : ℕ) → k < l.i → driven_on l.circuit.board < k → reading l.volts k <ℤ pos voltage_limit

@@ -1,29 +1,37 @@
 use mathlib.Core.Bool.{false}
 use native.Mathlib.Omega.{arith}
+use Rattle.std.proofs.lemmas.Result.{err_from_is_err_and}
 use Rattle.solve.specs.Sample.{TopTested}
-use Rattle.solve.proofs.SampleLaws.{empty_refused, top_refused, sample_accepted, stored_refused}
+use Rattle.solve.proofs.SampleLaws.{empty_refused, answer_ranged, top_refused, sample_accepted, stored_refused}
 use Rattle.solve.proofs.sample.voiced.Goals as goal
 
-pub returns-in-Err : goal.returns-in-Err
-returns-in-Err c =
+pub returns-in_err-found : goal.returns-in_err-found
+returns-in_err-found c =
     let a = c.args in
-    (omega arith, λ v. empty_refused a.board.now a.stretches.now a.given.now a.stored.now c.requires.1 (c.in-Err.ensures))
+    let q = err_from_is_err_and c.from_residual.result c.from_residual.ensures.1 in
+    rw (q.1, q.2) (omega arith, λ v. empty_refused a.circuit.now.board a.circuit.now.stretches a.given.now a.stored.now c.requires.1 c.in_err-found.ensures)
 
 pub returns-then-at_top : goal.returns-then-at_top
 returns-then-at_top c =
     let a = c.args in
-    (omega arith, λ v. top_refused a.board.now a.stretches.now a.given.now a.stored.now c.requires.1 c.in-Ok.found c.in-Ok.ensures (rw c.if-at_top.true at c.at_top.ensures))
+    (omega arith, λ v. top_refused a.circuit.now.board a.circuit.now.stretches a.given.now a.stored.now c.requires.1 c.in_ok-found.found c.in_ok-found.ensures (rw c.if-at_top.true at c.at_top.ensures))
 
-pub returns-in-Stored : goal.returns-in-Stored
-returns-in-Stored c =
-    let below : TopTested c.args.board.now c.in-Ok.found false = rw c.if-at_top.false at c.at_top.ensures in
+pub advance-requires : goal.advance-requires
+advance-requires c =
     let a = c.args in
-    let new = c.in-Stored.ensures in
-    sample_accepted a.board.now a.stretches.now a.given.now a.stored.now c.requires.1 c.in-Ok.found c.in-Ok.ensures below c.advance.new.stored new.0 new.1
+    let p = c.requires.0 in
+    (record { ready = p.ready; kept = p.kept; ranged = answer_ranged a.circuit.now.board a.circuit.now.stretches a.given.now a.stored.now c.requires.1 c.in_ok-found.found c.in_ok-found.ensures }, p.long)
 
-pub returns-in-Beyond : goal.returns-in-Beyond
-returns-in-Beyond c =
-    let below : TopTested c.args.board.now c.in-Ok.found false = rw c.if-at_top.false at c.at_top.ensures in
+pub returns-in-Ok : goal.returns-in-Ok
+returns-in-Ok c =
+    let below : TopTested c.args.circuit.now.board c.in_ok-found.found false = rw c.if-at_top.false at c.at_top.ensures in
     let a = c.args in
-    let old = c.in-Beyond.ensures in
-    (omega arith, λ v. stored_refused a.board.now a.stretches.now a.given.now a.stored.now c.requires.1 c.in-Ok.found c.in-Ok.ensures below c.advance.new.stored old.0 old.1)
+    let new = c.in-Ok.ensures in
+    sample_accepted a.circuit.now.board a.circuit.now.stretches a.given.now a.stored.now c.requires.1 c.in_ok-found.found c.in_ok-found.ensures below c.advance.new.stored new.0 new.1
+
+pub returns-in-Err : goal.returns-in-Err
+returns-in-Err c =
+    let below : TopTested c.args.circuit.now.board c.in_ok-found.found false = rw c.if-at_top.false at c.at_top.ensures in
+    let a = c.args in
+    let old = c.in-Err.ensures in
+    (omega arith, λ v. stored_refused a.circuit.now.board a.circuit.now.stretches a.given.now a.stored.now c.requires.1 c.in_ok-found.found c.in_ok-found.ensures below c.advance.new.stored old.0 old.1)

@@ -4,7 +4,7 @@ use Rattle.solve.proofs.settle.settle.Goals as goal
 pub returns-in_err-descend : goal.returns-in_err-descend
 returns-in_err-descend c =
     let k = c.in_err-descend.ensures in
-    (k.0, let a = c.args in came_out a.board.now a.stretches.now a.stored.now a.at.now.volts c.descend.new.at.volts c.from_residual.result c.from_residual.ensures.0 (nowhere_down c.loop-sweeps.invariant.1 k.1))
+    (k.0, let a = c.args in came_out a.circuit.now.board a.circuit.now.stretches a.stored.now a.at.now.volts c.descend.new.at.volts c.from_residual.result c.from_residual.ensures.0 (nowhere_down c.loop-sweeps.invariant.1 k.1))
 
 pub loop-sweeps-preserved-then-sweeps-lt2 : goal.loop-sweeps-preserved-then-sweeps-lt2
 loop-sweeps-preserved-then-sweeps-lt2 c =
