@@ -1,15 +1,15 @@
 -- Texts added one after the other, and what a number's digits are. Assumes nothing.
-use mathlib.Core.Path.{◌≡◌, refl, sym, ◌∙◌, ap}
+use mathlib.Core.Path.{◌≡◌, refl, ◌∙◌}
 use mathlib.Core.List.{List, [], ◌∷◌, ◌++◌}
 use mathlib.Core.Bool.{Bool, true, false, true≢false}
 use Prim.Native.Nat.{ℕ, zero, suc, ◌+◌, ◌*◌, ◌-◌, ◌/◌, ◌%◌, ◌^◌, ◌≤◌, ◌<◌}
 use native.Mathlib.Nat.{pow-le-pow_right, pow-suc, mod-eq_of_lt, div-lt_iff_lt-mul, le-div_iff_mul-le}
-use native.Mathlib.Numerals.{add-one}
 use native.Mathlib.Omega.{arith}
 use lib.Dec.{ltb}
 use lib.IntN.{ℤ, pos, negsuc}
-use lib.ListN.{length, take, get_or, set, length-append}
-use lib.Seq.{take-suc, length-take-le}
+use lib.ListN.{length, take, drop, set, length-append, length-set}
+use Rattle.std.proofs.Common.{append_assoc}
+use Rattle.std.proofs.lemmas.List.{take-append-drop, take_more_set, drop-set-lt}
 use lib.Signed.{lt_z}
 use borrow.Author.Tests.{ltb-true, ltb-false, lt-ltb}
 use Rattle.io.specs.Digits.{hex_digit_ascii, last_digits, IsDigitCount}
@@ -19,20 +19,13 @@ use Rattle.console.specs.Text.{decimal_in, decimal, sign, Adds}
 
 -- ---- texts in a buffer
 
--- no text yet, and one byte more of a word
-pub overlaid_none : (l : List ℕ) (at : ℕ) (w : List ℕ) → l ≡ overlaid l at (take 0 w)
+-- a word in the place of as many bytes
+pub overlaid_there : (l : List ℕ) (at : ℕ) (w : List ℕ) → at + length w ≤ length l → take at l ++ (w ++ drop (at + length w) l) ≡ overlaid l at w
 unfolding overlaid
-overlaid_none l at w = refl
-
-pub overlaid_more : (l : List ℕ) (at : ℕ) (w : List ℕ) (j : ℕ) → j < length w → set (overlaid l at (take j w)) (at + j) (get_or w j 0) ≡ overlaid l at (take (j + 1) w)
-unfolding overlaid
-overlaid_more l at w j h =
-    let k : length (take j w) ≡ j = length-take-le j w (omega arith) in
-    sym
-    (ap (λ (i : ℕ). overlaid l at (take i w)) (add-one j)
-    ∙ ap (overlaid l at) (take-suc w j 0 h)
-    ∙ sym (overlaid-append l at (take j w) (get_or w j 0 ∷ []))
-    ∙ ap (λ (i : ℕ). set (overlaid l at (take j w)) (at + i) (get_or w j 0)) k)
+overlaid_there l at [] h = let e : at + 0 ≡ at = omega arith in rw e (take-append-drop at l)
+overlaid_there l at (v ∷ w) h =
+    let e : at + suc (length w) ≡ at + 1 + length w = omega arith in
+    rw e (rw (take_more_set l at v (omega arith), drop-set-lt (at + 1 + length w) l at v (omega arith), append_assoc) at (overlaid_there (set l at v) (at + 1) w (simp length-set (omega arith))))
 
 -- no text
 pub adds_none : {m at : ℕ} {a : List ℕ} → Adds [] m at a at a

@@ -1,5 +1,6 @@
 -- Text taken apart into runs of bytes, in ASCII. Assumes nothing.
-use Rattle.std.specs.Prelude.{Bool, ◌||◌, not, cond, List, [], ◌∷◌, ℕ, suc, ◌+◌, eqb, take, drop}
+use Rattle.std.specs.Prelude.{Bool, ◌||◌, not, cond, List, [], ◌∷◌, ℕ, ◌+◌, eqb, take, drop}
+use Rattle.std.specs.List.{prefix_len}
 use Rattle.units.specs.Table.{between}
 use Rattle.console.specs.declared.words.Run.{Run}
 use Rattle.console.specs.declared.words.Run.TheVariants.{Blanks, Word, Line, Said, Digits, Name}
@@ -25,9 +26,8 @@ belongs Digits b = is_digit b
 belongs Name b = is_naming b
 
 -- how many bytes at the start of a text are of a kind
-unfoldable pub leading : (ℕ → Bool) → List ℕ → ℕ
-leading kind [] = 0
-leading kind (b ∷ text) = cond (kind b) (suc (leading kind text)) 0
+abbrev pub leading : (ℕ → Bool) → List ℕ → ℕ
+leading kind text = prefix_len kind text
 
 -- the bytes at the start that belong to a run, and those after them
 abbrev pub first : Run → List ℕ → List ℕ

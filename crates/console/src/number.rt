@@ -7,15 +7,12 @@ use super::words;
 use super::words::Run;
 use units::signed;
 
-// What a text spells: no number, one that is 2^63 or more in size, or this one.
+// Why a text spells no number that is read: it is none, or one that is 2^63 or more in size.
 #[derive(Clone, Copy)]
-pub enum Spelt {
-    Nothing,
+pub enum NumberError {
+    NoNumber,
     Beyond,
-    Value(i64),
 }
-
-const MINUS: u8 = 45;
 
 // A number of this size or more is beyond.
 const BEYOND: u64 = 9223372036854775808;
@@ -26,14 +23,7 @@ const TENTH: u64 = 922337203685477580;
 fn all_digits(text: &[u8]) -> bool
     ensures { result ≡ all_digits text.now }
 {
-    let mut j: usize = 0;
-    while j < text.len() {
-        if !words::is_digit(text[j]) {
-            return false;
-        }
-        j += 1;
-    }
-    true
+    text.iter().all(u8::is_ascii_digit)
 }
 
 // What digits are worth, or what is beyond.
@@ -42,29 +32,21 @@ fn worth(digits: &[u8]) -> u64
     ensures { result ≡ min (worth digits.now (length digits.now)) (2 ^ 63) }
 {
     let mut n: u64 = 0;
-    let mut j: usize = 0;
-    while j < digits.len() {
+    for digit in digits {
         // further digits only make it larger
         if TENTH < n {
             return BEYOND;
         }
-        n = 10 * n + (digits[j] - 48) as u64;
-        j += 1;
+        n = 10 * n + (*digit - b'0') as u64;
     }
-    if n < BEYOND {
-        return n;
-    }
-    BEYOND
+    n.min(BEYOND)
 }
 
 // What the digits from a place of a text on are worth, or what is beyond; 0 where there are none.
 pub fn worth_at(text: &[u8], at: usize) -> u64
     ensures { result ≡ min (worth_at text.now at) (2 ^ 63) }
 {
-    if text.len() <= at {
-        return 0;
-    }
-    worth(words::first(Run::Digits, &text[at..]))
+    worth(words::first(Run::Digits, text.get(at..).unwrap_or(&[])))
 }
 
 // A number of this size, below zero or not.
@@ -79,31 +61,25 @@ pub fn value(negative: bool, size: u64) -> i64
 }
 
 // What digits spell, where a minus stands before them or none.
-fn plain(negative: bool, digits: &[u8]) -> Spelt
+fn plain(negative: bool, digits: &[u8]) -> Result<i64, NumberError>
     ensures { result ≡ plain negative digits.now }
 {
-    if digits.len() == 0 {
-        return Spelt::Nothing;
-    }
-    if !all_digits(digits) {
-        return Spelt::Nothing;
+    if digits.is_empty() || !all_digits(digits) {
+        return Err(NumberError::NoNumber);
     }
     let size = worth(digits);
-    if size < BEYOND {
-        return Spelt::Value(value(negative, size));
+    if BEYOND <= size {
+        return Err(NumberError::Beyond);
     }
-    Spelt::Beyond
+    Ok(value(negative, size))
 }
 
 // What a text spells.
-pub fn number(text: &[u8]) -> Spelt
+pub fn number(text: &[u8]) -> Result<i64, NumberError>
     ensures { result ≡ spelt text.now }
 {
-    if text.len() == 0 {
-        return Spelt::Nothing;
+    match text.strip_prefix(b"-") {
+        Some(digits) => plain(true, digits),
+        None => plain(false, text),
     }
-    if text[0] == MINUS {
-        return plain(true, &text[1..]);
-    }
-    plain(false, text)
 }

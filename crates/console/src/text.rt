@@ -10,12 +10,9 @@ pub fn put_word(text: &mut [u8], at: usize, word: &[u8]) -> usize
     requires { at + length word.now ≤ length text.old }
     ensures { Adds word.now (length word.now) at text.old result text.new }
 {
-    let mut j: usize = 0;
-    while j < word.len() {
-        text[at + j] = word[j];
-        j += 1;
-    }
-    at + j
+    let end = at + word.len();
+    text[at..end].copy_from_slice(word);
+    end
 }
 
 // A number's decimal digits.

@@ -1,6 +1,6 @@
 // Text taken apart: what stands at its start and is of one kind, and what follows on that.
-ghost use Rattle.std.specs.Prelude.{◌≡◌, get_or};
-ghost use Rattle.console.specs.Words.{is_blank, is_digit, is_naming, belongs, leading, first, rest, past};
+ghost use Rattle.std.specs.Prelude.{◌≡◌, ◌≤◌, length, get_or};
+ghost use Rattle.console.specs.Words.{is_blank, is_naming, belongs, leading, first, rest, past};
 
 // Blanks between words; a word; a line up to its end; what a line says up to its comment; the digits
 // of a number; a name.
@@ -18,20 +18,14 @@ pub enum Run {
 fn is_blank(byte: u8) -> bool
     ensures { result ≡ is_blank byte }
 {
-    (byte == 32) | (byte == 9) | (byte == 13)
-}
-
-pub fn is_digit(byte: u8) -> bool
-    ensures { result ≡ is_digit byte }
-{
-    (48 <= byte) & (byte <= 57)
+    matches!(byte, b' ' | b'\t' | b'\r')
 }
 
 // A letter, a digit or an underscore.
 fn is_naming(byte: u8) -> bool
     ensures { result ≡ is_naming byte }
 {
-    is_digit(byte) | ((65 <= byte) & (byte <= 90)) | ((97 <= byte) & (byte <= 122)) | (byte == 95)
+    byte.is_ascii_alphanumeric() || byte == b'_'
 }
 
 // Whether a byte belongs to the run.
@@ -41,25 +35,19 @@ fn belongs(run: Run, byte: u8) -> bool
     match run {
         Run::Blanks => is_blank(byte),
         Run::Word => !is_blank(byte),
-        Run::Line => byte != 10,
-        Run::Said => byte != 59,
-        Run::Digits => is_digit(byte),
+        Run::Line => byte != b'\n',
+        Run::Said => byte != b';',
+        Run::Digits => byte.is_ascii_digit(),
         Run::Name => is_naming(byte),
     }
 }
 
 // How many bytes at the start belong to the run.
 fn leading(run: Run, text: &[u8]) -> usize
-    ensures { result ≡ leading (belongs run) text.now }
+    ensures value { result ≡ leading (belongs run) text.now }
+    ensures within { result ≤ length text.now }
 {
-    let mut j: usize = 0;
-    while j < text.len() {
-        if !belongs(run, text[j]) {
-            return j;
-        }
-        j += 1;
-    }
-    j
+    text.iter().take_while(|byte| belongs(run, **byte)).count()
 }
 
 // Those bytes.
@@ -82,18 +70,12 @@ pub fn rest<'a>(run: Run, text: &'a [u8]) -> &'a [u8]
 pub fn byte_at(text: &[u8], at: usize) -> u8
     ensures { result ≡ get_or text.now at 0 }
 {
-    if text.len() <= at {
-        return 0;
-    }
-    text[at]
+    text.get(at).copied().unwrap_or(0)
 }
 
 // The place after those bytes that stand from a place on.
 pub fn past(run: Run, text: &[u8], at: usize) -> usize
     ensures { result ≡ past run text.now at }
 {
-    if text.len() <= at {
-        return at;
-    }
-    at + leading(run, &text[at..])
+    at + leading(run, text.get(at..).unwrap_or(&[]))
 }

@@ -1,14 +1,16 @@
-use mathlib.Core.Path.{refl}
-use lib.ListN.{length-set}
-use borrow.Author.Rules.{rules}
-use Rattle.console.proofs.TextLaws.{overlaid_none, overlaid_more}
+use Rattle.std.proofs.Common.{◌≡◌, ◌+◌, ◌-◌, length, arith, refl}
+use lib.Seq.{drop-drop}
+use Rattle.console.proofs.TextLaws.{overlaid_there}
 use Rattle.console.proofs.text.put_word.Goals as goal
 
-pub loop-j-init : goal.loop-j-init
-loop-j-init c = (search rules, refl, overlaid_none c.args.text.now c.args.at c.args.word.now)
-
-pub loop-j-preserved : goal.loop-j-preserved
-loop-j-preserved c =
-    let l = c.loop-j in
-    let a = c.args in
-    (search rules, simp length-set (search rules), rw l.invariant.2 (overlaid_more a.text.now a.at a.word.now l.j c.loop-j-test.true))
+pub returns : goal.returns
+returns c =
+    let text = c.args.text.now in
+    let at = c.args.at in
+    let word = c.args.word.now in
+    let long : at + length word - at ≡ length word = omega arith in
+    record {
+      short = omega arith;
+      moved = refl;
+      buffer = rw (c.copy_from_slice.ensures.after, long, drop-drop (length word) at text) (overlaid_there text at word c.requires);
+    }
