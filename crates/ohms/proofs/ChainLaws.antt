@@ -5,9 +5,9 @@ use mathlib.Core.List.{List}
 use Prim.Native.Nat.{ℕ, ◌≤◌, ◌<◌}
 use native.Mathlib.Omega.{arith}
 use lib.ListN.{length}
+use Rattle.ohms.specs.Worth.{Worth}
 use Rattle.ohms.specs.Grammar.{stands, More, last, more, Chain}
 use Rattle.ohms.specs.declared.stages.Sign.{Sign}
-use Rattle.ohms.specs.declared.stages.Worth.{Worth}
 
 -- what stands from a place on has one end and comes to one thing; it is not empty, and ends in the text
 pub record OneReading (text : List ℕ) (Item : ℕ → ℕ → Worth → Type 0) : Type 0 where

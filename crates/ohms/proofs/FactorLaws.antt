@@ -12,10 +12,11 @@ use Rattle.units.proofs.Every.{both}
 use Rattle.console.specs.Words.{past}
 use Rattle.console.specs.declared.words.Run.TheVariants.{Blanks, Digits}
 use Rattle.console.proofs.WordLaws.{byte_there, past_within, past_within_some, past_some}
+use Rattle.ohms.specs.Worth.{Worth}
 use Rattle.ohms.specs.Grammar.{stands, width, Chain, Written, Bracketed, SumOf, Factor, Parallel, Sum}
+use Rattle.ohms.specs.Found.{Operand}
 use Rattle.ohms.specs.declared.stages.Sign.{Sign}
 use Rattle.ohms.specs.declared.stages.Sign.TheVariants.{Plus, Bars}
-use Rattle.ohms.specs.declared.stages.Worth.{Worth}
 use Rattle.ohms.proofs.ChainLaws.{OneReading, chain_reads}
 
 -- and so does a sign
@@ -82,3 +83,8 @@ parallel_reads text room = chain_reads Bars (Factor text room) text (factor_read
 -- a value has one end and comes to one thing
 pub sum_reads : (text : List ℕ) (room : ℕ) → OneReading text (Sum text room)
 sum_reads text room = sum_of_reads text (Factor text room) (factor_reads text room)
+
+-- so has what a sign stands between
+pub operand_reads : (sign : Sign) (text : List ℕ) (room : ℕ) → OneReading text (Operand sign text room)
+operand_reads Plus text room = parallel_reads text room
+operand_reads Bars text room = factor_reads text room

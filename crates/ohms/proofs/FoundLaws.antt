@@ -1,23 +1,17 @@
 -- What the reader of a factor answers is right. Assumes nothing.
-use mathlib.Core.Path.{◌≡◌, refl, sym, ◌∙◌}
-use mathlib.Core.Bool.{Bool, true, false, false≢true, cond}
+use mathlib.Core.Path.{◌≡◌, refl}
 use mathlib.Core.List.{List}
 use mathlib.Core.Logic.{◌⊎◌, inl, inr}
 use Prim.Native.Nat.{ℕ, zero, suc, ◌+◌, ◌-◌, ◌^◌, ◌≤◌, ◌<◌, min}
 use native.Mathlib.Omega.{arith}
-use lib.Dec.{eqb}
 use lib.ListN.{get_or}
-use borrow.Author.Tests.{eqb-true, eq-eqb, le-leb, lt-leb}
+use borrow.Author.Tests.{le-leb, lt-leb}
 use Rattle.units.proofs.Integers.{decide_n}
 use Rattle.console.specs.Number.{worth_at}
 use Rattle.console.specs.Words.{past}
 use Rattle.console.specs.declared.words.Run.TheVariants.{Blanks, Digits}
-use Rattle.ohms.specs.Worth.{stage, most}
-use Rattle.ohms.specs.Grammar.{Written, Factor, Sum}
-use Rattle.ohms.specs.Found.{Right, closed}
-use Rattle.ohms.specs.declared.reader.Found.{Found}
-use Rattle.ohms.specs.declared.reader.Found.TheVariants.{Nothing, Value}
-use Rattle.ohms.specs.declared.stages.Worth.{Worth}
+use Rattle.ohms.specs.Worth.{Worth, stage, most}
+use Rattle.ohms.specs.Grammar.{Written, Bracketed, Factor, Sum}
 use Rattle.ohms.proofs.FactorLaws.{sum_reads}
 
 -- a number of 2^63 is as far outside as a larger one
@@ -42,43 +36,34 @@ module _ (text : List ℕ) where
     unwritten : {j : ℕ} {w : Worth} → Written text i j w → ⊥
     unwritten a = omega (arith, a.digits)
 
-    -- without digits nothing stands there if no bracket may be opened
-    pub factor_no_room : (room : ℕ) → room ≡ 0 → Right (Factor text room i) Nothing
+    -- without digits nothing stands there if no bracket may be opened, or none is
+    pub factor_unopened : (room : ℕ) → (room ≡ 0) ⊎ (get_or text i 0 ≡ 40 → ⊥) → (j : ℕ) (w : Worth) → Factor text room i j w → ⊥
     unfolding Factor
-    factor_no_room zero e = λ j w a. unwritten a
-    factor_no_room (suc room) e = absurd (omega arith)
-
-    -- or if none is
-    pub factor_unopened : (room : ℕ) → (get_or text i 0 ≡ 40 → ⊥) → Right (Factor text room i) Nothing
-    unfolding Factor
-    factor_unopened zero e = λ j w a. unwritten a
-    factor_unopened (suc room) e = λ j w a. go a
-      where
-        go : {j : ℕ} {w : Worth} → Factor text (suc room) i j w → ⊥
-        go (inl a) = unwritten a
-        go (inr a) = e a.opens
+    factor_unopened zero e j w a = unwritten a
+    factor_unopened (suc room) (inl e) j w a = absurd (omega arith)
+    factor_unopened (suc room) (inr e) j w (inl a) = unwritten a
+    factor_unopened (suc room) (inr e) j w (inr a) = e a.opens
 
     -- and otherwise what stands in the brackets, if they are closed
-    module _ (room : ℕ) (opened : get_or text i 0 ≡ 40) where
-      bracketed : (found : Found) → Right (Sum text room (past Blanks text (i + 1))) found → Right (Factor text (suc room) i) (closed text found)
-      unfolding Factor
-      bracketed Nothing h = λ j w a. go a
-        where
-          go : {j : ℕ} {w : Worth} → Factor text (suc room) i j w → ⊥
-          go (inl a) = unwritten a
-          go (inr a) = h _ _ a.inside
-      bracketed (Value end w) h = by (eqb (get_or text end 0) 41) refl
-        where
-          by : (t : Bool) → eqb (get_or text end 0) 41 ≡ t → Right (Factor text (suc room) i) (cond t (Value (past Blanks text (end + 1)) w) Nothing)
-          by true e = inr (record { close = end; opens = opened; inside = h; closes = eqb-true (get_or text end 0) 41 e; ends = refl })
-          by false e = λ j w a. go a
-            where
-              go : {j : ℕ} {w : Worth} → Factor text (suc room) i j w → ⊥
-              go (inl a) = unwritten a
-              go (inr a) = let same = (sum_reads text room).once a.inside h in false≢true (sym e ∙ eq-eqb (get_or text end 0) 41 (rw same.0 at a.closes))
+    in_brackets : (room : ℕ) → 1 ≤ room → {j : ℕ} {w : Worth} → Factor text room i j w → Bracketed (Sum text (room - 1)) text i j w
+    unfolding Factor
+    in_brackets zero some a = absurd (omega arith)
+    in_brackets (suc room) some (inl a) = absurd (unwritten a)
+    in_brackets (suc room) some (inr a) = let less : suc room - 1 ≡ room = omega arith in rw less a
 
-    pub factor_bracketed : (room : ℕ) → 1 ≤ room → get_or text i 0 ≡ 40 → (found : Found) → Right (Sum text (room - 1) (past Blanks text (i + 1))) found → Right (Factor text room i) (closed text found)
-    factor_bracketed zero some opened found h = absurd (omega arith)
-    factor_bracketed (suc room) some opened found h =
-        let less : suc room - 1 ≡ room = omega arith in
-        bracketed room opened found (rw less at h)
+    pub factor_empty : (room : ℕ) → 1 ≤ room → ((j : ℕ) (w : Worth) → Sum text (room - 1) (past Blanks text (i + 1)) j w → ⊥) → (j : ℕ) (w : Worth) → Factor text room i j w → ⊥
+    factor_empty room some none j w a = let b = in_brackets room some a in none b.close w b.inside
+
+    module _ (end : ℕ) (v : Worth) where
+      pub factor_unclosed : (room : ℕ) → 1 ≤ room → Sum text (room - 1) (past Blanks text (i + 1)) end v → (get_or text end 0 ≡ 41 → ⊥) → (j : ℕ) (w : Worth) → Factor text room i j w → ⊥
+      factor_unclosed room some inside e j w a =
+          let b = in_brackets room some a in
+          let same = (sum_reads text (room - 1)).once b.inside inside in
+          e (rw same.0 at b.closes)
+
+      pub factor_bracketed : (room : ℕ) → 1 ≤ room → Sum text (room - 1) (past Blanks text (i + 1)) end v → get_or text i 0 ≡ 40 → get_or text end 0 ≡ 41 → Factor text room i (past Blanks text (end + 1)) v
+      unfolding Factor
+      factor_bracketed zero some inside opens closes = absurd (omega arith)
+      factor_bracketed (suc room) some inside opens closes =
+          let less : suc room - 1 ≡ room = omega arith in
+          inr (record { close = end; opens = opens; inside = rw less at inside; closes = closes; ends = refl })

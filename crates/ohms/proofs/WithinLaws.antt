@@ -7,32 +7,31 @@ use Prim.Native.Nat.{ℕ, zero, suc, ◌≤◌}
 use Rattle.units.specs.Table.{between}
 use Rattle.units.proofs.Every.{between_says}
 use Rattle.console.specs.Number.{worth_at}
-use Rattle.ohms.specs.Worth.{most, stage, together, joined}
+use Rattle.ohms.specs.Worth.{Worth, most, stage, together, joined}
 use Rattle.ohms.specs.Grammar.{More, last, more, Chain, SumOf, Factor, Sum}
 use Rattle.ohms.specs.declared.stages.Sign.{Sign}
 use Rattle.ohms.specs.declared.stages.Sign.TheVariants.{Plus, Bars}
-use Rattle.ohms.specs.declared.stages.Worth.{Worth}
-use Rattle.ohms.specs.declared.stages.Worth.TheVariants.{Within, Outside}
+use Rattle.std.specs.Prelude.{Some, None}
 
 -- no more than the greatest, if it is within the limits
 abbrev pub Bounded : Worth → Type 0
-Bounded (Within v) = v ≤ most
-Bounded Outside = Unit {0}
+Bounded (Some v) = v ≤ most
+Bounded None = Unit {0}
 
 -- a stage is bounded, whatever number it is of
 pub stage_bounded : (n : ℕ) → Bounded (stage n)
 unfolding stage
 stage_bounded n = go (between 1 most n) refl
   where
-    go : (t : Bool) → between 1 most n ≡ t → Bounded (cond t (Within n) Outside)
+    go : (t : Bool) → between 1 most n ≡ t → Bounded (cond t (Some n) None)
     go true e = (between_says 1 most n e).1
     go false e = tt
 
 -- so are two values with a sign between them, whatever they are
 joined_bounded : (sign : Sign) (v w : Worth) → Bounded (joined sign v w)
-joined_bounded sign (Within a) (Within b) = stage_bounded (together sign a b)
-joined_bounded sign (Within a) Outside = tt
-joined_bounded sign Outside w = tt
+joined_bounded sign (Some a) (Some b) = stage_bounded (together sign a b)
+joined_bounded sign (Some a) None = tt
+joined_bounded sign None w = tt
 
 -- ---- whatever stands in a text
 

@@ -4,10 +4,9 @@ use Rattle.std.specs.Prelude.{◌≡◌, Bool, true, false, ◌&&◌, List, ◌�
 use Rattle.console.specs.Number.{worth_at}
 use Rattle.console.specs.Words.{past}
 use Rattle.console.specs.declared.words.Run.TheVariants.{Blanks, Digits}
-use Rattle.ohms.specs.Worth.{stage, joined}
+use Rattle.ohms.specs.Worth.{Worth, stage, joined}
 use Rattle.ohms.specs.declared.stages.Sign.{Sign}
 use Rattle.ohms.specs.declared.stages.Sign.TheVariants.{Plus, Bars}
-use Rattle.ohms.specs.declared.stages.Worth.{Worth}
 
 -- ---- signs
 

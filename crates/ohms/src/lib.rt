@@ -6,4 +6,4 @@ mod reader;
 mod stages;
 
 pub use reader::{Found, value};
-pub use stages::{Worth, stage};
+pub use stages::stage;

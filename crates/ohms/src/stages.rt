@@ -1,14 +1,8 @@
-// What values come to, stage by stage.
+// What values come to, stage by stage: a whole number within the limits of a value, or nothing once a
+// stage was outside them.
 ghost use Rattle.std.specs.Prelude.{◌≡◌};
 ghost use Rattle.ohms.specs.Worth.{together, stage, joined};
 ghost use Rattle.ohms.specs.declared.stages.Sign.TheVariants.{Bars};
-
-// A whole number within the limits of a value, or one that some stage left.
-#[derive(Clone, Copy)]
-pub enum Worth {
-    Within(u32),
-    Outside,
-}
 
 // In series, and in parallel.
 #[derive(Clone, Copy)]
@@ -17,17 +11,17 @@ pub enum Sign {
     Bars,
 }
 
-// The greatest value, which is the greatest that an image holds.
-const MOST: u64 = 4294967295;
-
-// A number that was written, or a result.
-pub fn stage(n: u64) -> Worth
+// A number that was written, or a result. The greatest value is the greatest that an image holds.
+pub fn stage(n: u64) -> Option<u32>
     ensures { result ≡ stage n }
 {
-    if (1 <= n) & (n <= MOST) {
-        return Worth::Within(n as u32);
+    let Ok(value) = u32::try_from(n) else {
+        return None;
+    };
+    if value == 0 {
+        return None;
     }
-    Worth::Outside
+    Some(value)
 }
 
 // Two resistances in parallel, rounded down; nothing beside nothing is nothing.
@@ -52,14 +46,8 @@ fn together(sign: Sign, a: u32, b: u32) -> u64
 }
 
 // What a sign makes of the values on both its sides.
-pub fn joined(sign: Sign, v: Worth, w: Worth) -> Worth
+pub fn joined(sign: Sign, v: Option<u32>, w: Option<u32>) -> Option<u32>
     ensures { result ≡ joined sign v w }
 {
-    match v {
-        Worth::Within(a) => match w {
-            Worth::Within(b) => stage(together(sign, a, b)),
-            Worth::Outside => Worth::Outside,
-        },
-        Worth::Outside => Worth::Outside,
-    }
+    stage(together(sign, v?, w?))
 }
