@@ -12,9 +12,8 @@ use Rattle.console.specs.Number.{worth_at}
 use Rattle.ohms.proofs.Promise.{value_once}
 use Rattle.network.specs.Kind.{resistor_kind, diode_kind}
 use Rattle.image.specs.declared.parts.Curve.{Curve}
-use Rattle.ohms.specs.Worth.{stage}
-use Rattle.ohms.specs.declared.stages.Worth.{Worth}
-use Rattle.ohms.specs.declared.stages.Worth.TheVariants.{Within, Outside}
+use Rattle.std.specs.Prelude.{Some, None}
+use Rattle.ohms.specs.Worth.{Worth, stage}
 use Rattle.netlist.specs.Kept.{kept_line, kept_said, KeptOf, RightBy, Right}
 use Rattle.netlist.specs.Line.{same, value_place, opener_of, element_line, plain_line, just, SaysBy, Says}
 use Rattle.netlist.specs.declared.line.Opener.{Opener}
@@ -65,14 +64,14 @@ right_said Meant x h m = go x.line h
 
 -- a line with a value is not broken
 pub element_whole : (kind curve : ℕ) (s : List ℕ) (w : Worth) → element_line kind curve s w ≡ line.Broken → ⊥
-element_whole kind curve s (Within v) e = let z : ◌≡◌ {A = ℕ} 0 1 = cc in omega arith
-element_whole kind curve s Outside e = let z : ◌≡◌ {A = ℕ} 0 1 = cc in omega arith
+element_whole kind curve s (Some v) e = let z : ◌≡◌ {A = ℕ} 0 1 = cc in omega arith
+element_whole kind curve s None e = let z : ◌≡◌ {A = ℕ} 0 1 = cc in omega arith
 
 pub plain_whole : (kind : ℕ) (s : List ℕ) → plain_line kind s ≡ line.Broken → ⊥
 plain_whole kind s = go (eqb kind diode_kind)
   where
-    go : (t : Bool) → cond t (element_line kind (worth_at s (value_place s)) s (Within 0)) (element_line kind 0 s (stage (worth_at s (value_place s)))) ≡ line.Broken → ⊥
-    go true = element_whole kind (worth_at s (value_place s)) s (Within 0)
+    go : (t : Bool) → cond t (element_line kind (worth_at s (value_place s)) s (Some 0)) (element_line kind 0 s (stage (worth_at s (value_place s)))) ≡ line.Broken → ⊥
+    go true = element_whole kind (worth_at s (value_place s)) s (Some 0)
     go false = element_whole kind 0 s (stage (worth_at s (value_place s)))
 
 -- ---- one reading

@@ -8,7 +8,8 @@ use lib.ListN.{length, drop, length-drop, drop_of_length-le}
 use lib.Seq.{drop-drop, length-take-le}
 use Rattle.console.specs.Words.{belongs, leading, first, lines}
 use Rattle.console.specs.declared.words.Run.TheVariants as run
-use Rattle.console.proofs.WordLaws.{leading_most, lines_first}
+use Rattle.std.proofs.lemmas.List.Sums.{prefix_len-le-length}
+use Rattle.console.proofs.WordLaws.{lines_first}
 use Rattle.netlist.specs.Draft.{blank_draft, fault_of, with_line}
 use Rattle.netlist.specs.Kept.{header_kept, kept_draft, KeptOf, RightBy, Right}
 use Rattle.netlist.specs.Text.{SaysLine}
@@ -70,7 +71,7 @@ abbrev pub line_at : List ℕ → ℕ → List ℕ
 line_at text at = first run.Line (drop at text)
 
 pub line_within : (text : List ℕ) (at : ℕ) → length (line_at text at) ≤ length (drop at text)
-line_within text at = omega (arith, leading_most (belongs run.Line) (drop at text), length-take-le (leading (belongs run.Line) (drop at text)) (drop at text) (leading_most (belongs run.Line) (drop at text)))
+line_within text at = omega (arith, prefix_len-le-length (belongs run.Line) (drop at text), length-take-le (leading (belongs run.Line) (drop at text)) (drop at text) (prefix_len-le-length (belongs run.Line) (drop at text)))
 
 lines_none : (text : List ℕ) (at : ℕ) → length text ≤ at → lines (drop at text) ≡ []
 unfolding lines
@@ -78,7 +79,7 @@ lines_none text at h = rw (drop_of_length-le text {i = at} h)
 
 lines_here : (text : List ℕ) (at : ℕ) → at < length text → lines (drop at text) ≡ line_at text at ∷ lines (drop (at + (length (line_at text at) + 1)) text)
 lines_here text at h =
-    let long = length-take-le (leading (belongs run.Line) (drop at text)) (drop at text) (leading_most (belongs run.Line) (drop at text)) in
+    let long = length-take-le (leading (belongs run.Line) (drop at text)) (drop at text) (prefix_len-le-length (belongs run.Line) (drop at text)) in
     lines_first (drop at text) (λ e. omega (arith, e, length-drop at text))
     ∙ rw (drop-drop (suc (leading (belongs run.Line) (drop at text))) at text, long, add-one)
 

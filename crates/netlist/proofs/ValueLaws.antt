@@ -15,9 +15,8 @@ use Rattle.image.specs.Parts.{no_element, no_curve, no_parts, in_version}
 use Rattle.image.specs.declared.parts.Element.{Element}
 use Rattle.image.specs.declared.parts.Parts.{Parts}
 use Rattle.ohms.specs.Grammar.{most_open}
-use Rattle.ohms.specs.Worth.{stage}
-use Rattle.ohms.specs.declared.stages.Worth.{Worth}
-use Rattle.ohms.specs.declared.stages.Worth.TheVariants.{Within, Outside}
+use Rattle.std.specs.Prelude.{Some, None}
+use Rattle.ohms.specs.Worth.{Worth, stage}
 use Rattle.ohms.proofs.WithinLaws.{Bounded, stage_bounded, sum_bounded}
 use Rattle.netlist.specs.Answer.{refused, at_end, Answered, ended, unread, repeated, beyond, passed, Answers, long, read}
 use Rattle.netlist.specs.Draft.{with_element, with_curve, with_setting, blank_draft, complete, with_line}
@@ -58,8 +57,8 @@ module _ (d : Draft) (each : ValuesFit d.parts) where
   -- an element by what its value comes to; nothing is told of one outside the limits
   element_fits_lem : (kind curve : ℕ) (s : List ℕ) (w : Worth) → Bounded w → ValuesFit (with_line d (element_line kind curve s w) no_curve).parts
   unfolding with_line
-  element_fits_lem kind curve s (Within v) b = part_fits _ b
-  element_fits_lem kind curve s Outside b = each
+  element_fits_lem kind curve s (Some v) b = part_fits _ b
+  element_fits_lem kind curve s None b = each
 
   -- an element with a plain number
   plain_fits : (kind : ℕ) (s : List ℕ) → ValuesFit (with_line d (plain_line kind s) no_curve).parts
@@ -68,8 +67,8 @@ module _ (d : Draft) (each : ValuesFit d.parts) where
       n : ℕ
       n = worth_at s (value_place s)
 
-      go : (t : Bool) → ValuesFit (with_line d (cond t (element_line kind n s (Within 0)) (element_line kind 0 s (stage n))) no_curve).parts
-      go true = element_fits_lem kind n s (Within 0) (omega arith)
+      go : (t : Bool) → ValuesFit (with_line d (cond t (element_line kind n s (Some 0)) (element_line kind 0 s (stage n))) no_curve).parts
+      go true = element_fits_lem kind n s (Some 0) (omega arith)
       go false = element_fits_lem kind 0 s (stage n) (stage_bounded n)
 
   -- whatever a line says

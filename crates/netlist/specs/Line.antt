@@ -3,7 +3,7 @@
 --   drives 1         a setting: drives, output or rate, and a number
 --   curve 0 600000 10000000
 -- s is what the line says; i is a place in it. Numbers are of any size. Assumes nothing.
-use Rattle.std.specs.Prelude.{◌≡◌, Bool, true, false, ◌&&◌, cond, List, [], ◌∷◌, ℕ, eqb, length, get_or, drop}
+use Rattle.std.specs.Prelude.{◌≡◌, Bool, true, false, ◌&&◌, cond, List, [], ◌∷◌, ℕ, eqb, length, get_or, drop, Some, None}
 use Rattle.console.specs.Number.{worth_at}
 use Rattle.console.specs.Words.{past, first}
 use Rattle.console.specs.declared.words.Run.TheVariants.{Blanks, Digits, Name}
@@ -11,9 +11,7 @@ use Rattle.network.specs.Kind.{resistor_kind, capacitor_kind, inductor_kind, dio
 use Rattle.image.specs.Parts.{no_curve}
 use Rattle.image.specs.declared.parts.Curve.{Curve}
 use Rattle.ohms.specs.Grammar.{Sum, most_open}
-use Rattle.ohms.specs.Worth.{stage}
-use Rattle.ohms.specs.declared.stages.Worth.{Worth}
-use Rattle.ohms.specs.declared.stages.Worth.TheVariants.{Within, Outside}
+use Rattle.ohms.specs.Worth.{Worth, stage}
 use Rattle.netlist.specs.Curve.{next, stands, ends, Stretches}
 use Rattle.netlist.specs.declared.said.Line.{Line}
 use Rattle.netlist.specs.declared.said.Line.TheVariants as line
@@ -81,14 +79,14 @@ headed s = stands Name s (start s) && stands Digits s (after_name s) && stands D
 
 -- the element, if no stage of its value was outside the limits
 abbrev pub element_line : (kind curve : ℕ) → List ℕ → Worth → Line
-element_line kind curve s (Within v) = line.Part (record { kind = kind; p = worth_at s (after_name s); q = worth_at s (second_node s); curve = curve; value = v })
-element_line kind curve s Outside = line.Outside
+element_line kind curve s (Some v) = line.Part (record { kind = kind; p = worth_at s (after_name s); q = worth_at s (second_node s); curve = curve; value = v })
+element_line kind curve s None = line.Outside
 
 -- with a plain number for its value: a diode's is the number of its curve, which has no limits here
 abbrev pub plain_line : ℕ → List ℕ → Line
 plain_line kind s =
     let n = worth_at s (value_place s) in
-    cond (eqb kind diode_kind) (element_line kind n s (Within 0)) (element_line kind 0 s (stage n))
+    cond (eqb kind diode_kind) (element_line kind n s (Some 0)) (element_line kind 0 s (stage n))
 
 -- ---- what a line says
 

@@ -12,7 +12,6 @@ use console::words::Run;
 use console::{number, words};
 use image::Element;
 use network::kind;
-use ohms::{Found, Worth};
 
 // A resistor, another element by its kind, a setting, a curve, or none of these.
 #[derive(Clone, Copy)]
@@ -107,11 +106,11 @@ fn headed(s: &[u8]) -> bool
 }
 
 // An element, if its value is within the limits.
-fn element_line(kind: u8, curve: u8, s: &[u8], worth: Worth) -> Line
+fn element_line(kind: u8, curve: u8, s: &[u8], worth: Option<u32>) -> Line
     ensures { result ≡ kept_line (element_line kind curve s.now worth) }
 {
     match worth {
-        Worth::Within(value) => {
+        Some(value) => {
             let p = field::byte(s, after_name(s));
             let q = field::byte(s, second_node(s));
             Line::Part(Element {
@@ -122,7 +121,7 @@ fn element_line(kind: u8, curve: u8, s: &[u8], worth: Worth) -> Line
                 value,
             })
         }
-        Worth::Outside => Line::Outside,
+        None => Line::Outside,
     }
 }
 
@@ -132,7 +131,7 @@ fn plain_line(kind: u8, s: &[u8]) -> Line
 {
     let at = value_place(s);
     if kind as u64 == kind::DIODE {
-        return element_line(kind, field::byte(s, at), s, Worth::Within(0));
+        return element_line(kind, field::byte(s, at), s, Some(0));
     }
     element_line(kind, 0, s, ohms::stage(number::worth_at(s, at)))
 }
@@ -145,13 +144,10 @@ fn resistor(s: &[u8]) -> Said
         return said::just(Line::Broken);
     }
     match ohms::value(s, value_place(s)) {
-        Found::Nothing => said::just(Line::Broken),
-        Found::Value(end, worth) => {
-            if end != s.len() {
-                return said::just(Line::Broken);
-            }
-            said::just(element_line(kind::RESISTOR as u8, 0, s, worth))
+        Some(found) if found.end == s.len() => {
+            said::just(element_line(kind::RESISTOR as u8, 0, s, found.worth))
         }
+        _ => said::just(Line::Broken),
     }
 }
 

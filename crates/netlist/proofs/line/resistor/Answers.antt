@@ -5,30 +5,27 @@ use Rattle.ohms.proofs.Promise.{value_once}
 use Rattle.netlist.specs.Kept.{kept_curve}
 use Rattle.netlist.specs.Line.{value_place, element_line, just, ResistorLine}
 use Rattle.netlist.proofs.LineLaws.{right_said, element_whole}
+use Rattle.netlist.proofs.line.resistor.Goals.{in_default-via-in-Some+else-found-s, in_default-via-in_default}
 use Rattle.netlist.proofs.line.resistor.Goals as goal
 
-pub returns-then-end-s : goal.returns-then-end-s
-returns-then-end-s c =
-    let s = c.args.s.now in
-    let v = rw c.value_place.ensures at c.in-Value.ensures in
-    rw c.just-then-end-s.ensures (λ y says. c.if-end-s.true (value_once s (value_place s) _ (length s) _ says.worth v says.value).0)
-
-pub returns-in-Nothing : goal.returns-in-Nothing
-returns-in-Nothing c =
-    let s = c.args.s.now in
-    let v = rw c.value_place.ensures at c.in-Nothing.ensures in
-    rw c.just-in-Nothing.ensures (λ y says. v (length s) says.worth says.value)
-
-pub returns-else-end-s : goal.returns-else-end-s
+pub returns-in-Some : goal.returns-in-Some
 unfolding kept_curve
-returns-else-end-s c =
+returns-in-Some c =
     let s = c.args.s.now in
-    let v = rw c.value_place.ensures at c.in-Value.ensures in
-    let w = c.in-Value.worth in
-    let says : ResistorLine s (just (element_line resistor_kind 0 s w)) = record {
+    let found = c.in-Some.found in
+    let v = rw c.value_place.ensures at c.in-Some.ensures in
+    let says : ResistorLine s (just (element_line resistor_kind 0 s found.worth)) = record {
       heads = sym c.headed.ensures ∙ c.if-not-headed.false;
-      worth = w;
-      value = rw c.if-end-s.false at v;
+      worth = found.worth;
+      value = rw c.if-found-s.true at v;
       says = refl;
     } in
-    rw (c.just-in-Value.ensures, c.element_line.ensures) (right_said (ResistorLine s) (just (element_line resistor_kind 0 s w)) (element_whole resistor_kind 0 s w) says)
+    rw (c.just-in-Some.ensures, c.element_line.ensures) (right_said (ResistorLine s) (just (element_line resistor_kind 0 s found.worth)) (element_whole resistor_kind 0 s found.worth) says)
+
+pub returns-in_default : goal.returns-in_default
+returns-in_default c =
+    let s = c.args.s.now in
+    rw c.just-in_default.ensures (λ y says. elim c.in_default.branch [
+      | in_default-via-in-Some+else-found-s w ↦ w.if-found-s.false (value_once s (value_place s) _ (length s) _ says.worth (rw c.value_place.ensures at w.in-Some.ensures) says.value).0
+      | in_default-via-in_default w ↦ (rw c.value_place.ensures at w.in_default.ensures) (length s) says.worth says.value
+    ])
