@@ -80,12 +80,5 @@ fn answer_file(rt: &(impl Files + Print), name: &[u8]) -> io::Result<()> {
 }
 
 fn main(rt: HostRuntime) -> io::Result<()> {
-    for i in 1..usize::MAX {
-        let mut name = outside::buffer();
-        match outside::argument(&rt, i, &mut name) {
-            Some(n) => answer_file(&rt, &name[..n])?,
-            None => break,
-        }
-    }
-    Ok(())
+    outside::for_each_argument(&rt, |name| answer_file(&rt, name))
 }

@@ -23,12 +23,5 @@ fn report_on(rt: &(impl Files + Print), name: &[u8]) -> io::Result<()> {
 }
 
 fn main(rt: HostRuntime) -> io::Result<()> {
-    for i in 1..usize::MAX {
-        let mut name = outside::buffer();
-        match outside::argument(&rt, i, &mut name) {
-            Some(n) => report_on(&rt, &name[..n])?,
-            None => break,
-        }
-    }
-    Ok(())
+    outside::for_each_argument(&rt, |name| report_on(&rt, name))
 }

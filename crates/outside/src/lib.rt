@@ -4,14 +4,15 @@
 // Whatever can't be had counts as empty: a program answers to no bytes as it does to any others.
 #![tactic(auto)]
 
-ghost use Rattle.std.specs.Prelude.{◌≡◌, ◌≤◌, length, take, IfSome};
+ghost use Rattle.std.specs.Fn.{FnReturnsAt};
+ghost use Rattle.std.specs.Prelude.{◌≡◌, ◌≤◌, List, ℕ, length, take, Err, IfErr, IfSome};
 ghost use Rattle.std.specs.Io.KnownBytes.{Consumes};
 
 use std::env::FillError;
 use std::fs::File;
 use std::io::Read;
 use std::rt::{Env, Files};
-use std::str;
+use std::{io, str};
 
 // 4,096 zeros, which hold any name, any image that is accepted, and the lines that are put together at
 // once.
@@ -38,6 +39,22 @@ pub fn argument(env: &impl Env, i: usize, buffer: &mut [u8]) -> Option<usize>
         Err(FillError::TooLong) => Some(0),
         Err(FillError::NotPresent) => None,
     }
+}
+
+// Each argument after the program's own name, up to the first call that fails. What the call failed with
+// is what comes of it, and nothing else does.
+pub fn for_each_argument<F: Fn(&[u8]) -> io::Result<()>>(env: &impl Env, act: F) -> io::Result<()>
+    requires { F.IsAlwaysCallable act }
+    ensures { IfErr result (λ e. (name : List ℕ) × (length name ≤ 4096) × FnReturnsAt F.Fn act name (Err e)) }
+{
+    for i in 1..usize::MAX {
+        let mut name = buffer();
+        let Some(n) = argument(env, i, &mut name) else {
+            break;
+        };
+        act(&name[..n])?;
+    }
+    Ok(())
 }
 
 // The file of this name, for reading, if it can be opened. Names are text here: bytes that aren't UTF-8
@@ -77,7 +94,6 @@ pub fn read(files: &impl Files, name: &[u8], buffer: &mut [u8]) -> usize
 #[cfg(test)]
 mod tests {
     use super::*;
-    use std::io;
 
     // Gives three bytes and then two, and fails from then on.
     #[derive(Drop)]
@@ -156,6 +172,22 @@ mod tests {
         assert_eq!(rt; argument(&Given, 1, &mut buffer), Some(5));
         assert_eq!(rt; argument(&Given, 1, &mut buffer[..4]), Some(0));
         assert_eq!(rt; argument(&Given, 2, &mut buffer), None);
+    }
+
+    #[test]
+    fn goes_through_the_arguments(rt: HostRuntime) {
+        let none = |_: &[u8]| Ok(());
+        assert!(rt; for_each_argument(&Given, none).is_ok(), "no call fails");
+        let given = |name: &[u8]| {
+            if name == b"g\0\0\0\0".as_slice() {
+                return Err(io::Error::other("the argument"));
+            }
+            Ok(())
+        };
+        assert!(rt;
+            for_each_argument(&Given, given).is_err(),
+            "the one call fails"
+        );
     }
 
     #[test]
