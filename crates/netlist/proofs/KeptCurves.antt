@@ -1,11 +1,12 @@
 -- What is kept of numbers, of arrays, and of a curve that is read from the left: to keep each number as it is read is to read them all and keep the curve
 -- that they make. Assumes nothing.
 use mathlib.Core.Path.{◌≡◌, refl, sym}
-use mathlib.Core.Bool.{Bool, true, false}
+use mathlib.Core.Bool.{Bool, true, false, cond}
 use mathlib.Core.List.{List, [], ◌∷◌, map}
 use mathlib.Core.Logic.{⊎_elim}
 use Prim.Native.Nat.{ℕ, zero, suc, ◌≤◌, ◌<◌, min, max}
 use native.Mathlib.Omega.{arith}
+use lib.Dec.{eqb}
 use lib.IntN.{ℤ, pos}
 use lib.ListN.{length, get_or, set, replicate, length-set, length-map}
 use lib.Seq.{set_out, get_or-set_other}
@@ -15,14 +16,17 @@ use Rattle.console.specs.Number.{worth_at}
 use Rattle.console.specs.declared.words.Run.TheVariants.{Digits}
 use Rattle.network.specs.Network.{reading}
 use Rattle.image.specs.Parts.{no_curve}
+use Rattle.network.specs.Kind.{diode_kind}
+use Rattle.std.specs.Prelude.{Some, None}
+use Rattle.ohms.specs.Worth.{Worth, stage}
 use Rattle.image.specs.declared.parts.Curve.{Curve}
 use Rattle.netlist.specs.Curve.{next, ends, breakpoint_at, stretch_stands, after_stretch, with_stretch, with_slope, Stretches, last, more}
 use Rattle.netlist.specs.Kept.{most_byte, byte, word, size, kept_breakpoint, kept_count, kept_curve, KeptOf}
-use Rattle.netlist.specs.Line.{opener_of, CurveLine, SaysBy, Says}
+use Rattle.netlist.specs.Line.{opener_of, value_place, element_line, plain_line, CurveLine, SaysBy, Says}
 use Rattle.netlist.specs.declared.line.Opener.{Opener}
 use Rattle.netlist.specs.declared.line.Opener.TheVariants.{Empty, Resistor, Plain, Setting, Curves, Other}
 use Rattle.netlist.specs.declared.said.Line.TheVariants as line
-use Rattle.netlist.specs.declared.said.Said.{Said}
+use Rattle.netlist.specs.declared.said.Line.{Line}
 use Rattle.netlist.proofs.PlaceLaws.{Drawing, drawing_more, drawing_last}
 
 -- ---- numbers
@@ -135,15 +139,34 @@ stretches_tidy : {s : List ℕ} {i : ℕ} {c whole : Curve} → Stretches s i c 
 stretches_tidy (last {c = c} e) t = tidy_slope c t _
 stretches_tidy (more {c = c} e rest) t = stretches_tidy rest (tidy_stretch c t _ _)
 
-says_by_tidy : (o : Opener) (s : List ℕ) (x : Said) → SaysBy o s x → TidyCurve x.curve
-says_by_tidy Empty s x a = rw a tidy_none
-says_by_tidy Resistor s x a = rw a.says tidy_none
-says_by_tidy (Plain kind) s x a = rw a.says tidy_none
-says_by_tidy (Setting field) s x a = rw a.says tidy_none
+abbrev pub TidyLine : Line → Type 0
+TidyLine line.Broken = Unit {0}
+TidyLine line.Empty = Unit {0}
+TidyLine line.Outside = Unit {0}
+TidyLine (line.Part e) = Unit {0}
+TidyLine (line.Setting field n) = Unit {0}
+TidyLine (line.Curve c) = TidyCurve c
+
+element_tidy : (kind curve : ℕ) (s : List ℕ) (w : Worth) → TidyLine (element_line kind curve s w)
+element_tidy kind curve s (Some v) = tt
+element_tidy kind curve s None = tt
+
+plain_tidy : (kind : ℕ) (s : List ℕ) → TidyLine (plain_line kind s)
+plain_tidy kind s = go (eqb kind diode_kind)
+  where
+    go : (t : Bool) → TidyLine (cond t (element_line kind (worth_at s (value_place s)) s (Some 0)) (element_line kind 0 s (stage (worth_at s (value_place s)))))
+    go true = element_tidy kind (worth_at s (value_place s)) s (Some 0)
+    go false = element_tidy kind 0 s (stage (worth_at s (value_place s)))
+
+says_by_tidy : (o : Opener) (s : List ℕ) (x : Line) → SaysBy o s x → TidyLine x
+says_by_tidy Empty s x a = rw a tt
+says_by_tidy Resistor s x a = rw a.says (element_tidy _ _ s a.worth)
+says_by_tidy (Plain kind) s x a = rw a.says (plain_tidy kind s)
+says_by_tidy (Setting field) s x a = rw a.says tt
 says_by_tidy Curves s x a = rw a.says (stretches_tidy a.numbers tidy_none)
 says_by_tidy Other s x a = absurd a
 
-pub says_tidy : (s : List ℕ) (x : Said) → Says s x → TidyCurve x.curve
+pub says_tidy : (s : List ℕ) (x : Line) → Says s x → TidyLine x
 says_tidy s = says_by_tidy (opener_of s) s
 
 -- what is kept of a curve so far, which goes on at a place
@@ -165,9 +188,9 @@ module _ (s : List ℕ) (from at : ℕ) (curve : Curve) (drawn : Drawn s from at
     drawing = drawing_more s from at drawn.whole drawn.drawing e;
   }
 
-  pub drawn_last : ends s at ≡ true → KeptOf (CurveLine s from) (record { line = line.Curve; curve = with_slope curve (word (worth_at s at)) })
+  pub drawn_last : ends s at ≡ true → KeptOf (CurveLine s from) (line.Curve (with_slope curve (word (worth_at s at))))
   drawn_last e = record {
-    whole = record { line = line.Curve; curve = with_slope drawn.whole (worth_at s at) };
+    whole = line.Curve (with_slope drawn.whole (worth_at s at));
     meant = record { curve = with_slope drawn.whole (worth_at s at); numbers = drawing_last s from at drawn.whole drawn.drawing e; says = refl };
     kept = rw (drawn.kept, slope_kept drawn.whole drawn.tidy (worth_at s at));
   }

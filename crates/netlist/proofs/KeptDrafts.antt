@@ -10,14 +10,13 @@ use Rattle.image.specs.declared.parts.Curve.{Curve}
 use Rattle.image.specs.declared.parts.Element.{Element}
 use Rattle.image.specs.declared.parts.Parts.{Parts}
 use Rattle.netlist.specs.Draft.{with_element, with_curve, resettled, with_setting, blank_draft, noted, fault_of, with_line}
-use Rattle.netlist.specs.Kept.{most_byte, most_word, byte, word, kept_element, kept_curve, kept_header, kept_parts, header_kept, kept_draft, kept_line, kept_said}
+use Rattle.netlist.specs.Kept.{most_byte, most_word, byte, word, kept_element, kept_curve, kept_header, kept_parts, header_kept, kept_draft, kept_line}
 use Rattle.netlist.specs.declared.draft.Draft.{Draft}
 use Rattle.netlist.specs.declared.said.Field.{Field}
 use Rattle.netlist.specs.declared.said.Field.TheVariants.{Drives, Output, Rate}
 use Rattle.netlist.specs.declared.said.Line.{Line}
 use Rattle.netlist.specs.declared.said.Line.TheVariants as line
-use Rattle.netlist.specs.declared.said.Said.{Said}
-use Rattle.netlist.proofs.KeptCurves.{fits, twice, max_kept, max_word, none_kept, store_kept, none-there, store-each, TidyCurve, tidy_none}
+use Rattle.netlist.proofs.KeptCurves.{fits, twice, max_kept, max_word, none_kept, store_kept, none-there, store-each, TidyCurve, tidy_none, TidyLine}
 
 -- ---- parts
 
@@ -117,35 +116,35 @@ unfolding blank_draft kept_parts kept_curve no_parts in_version
 blank_kept = refl
 
 module _ (d : Draft) where
-  pub tidy_line : Tidy d.parts → (l : Line) (c : Curve) → TidyCurve c → Tidy (with_line d l c).parts
+  pub tidy_line : Tidy d.parts → (l : Line) → TidyLine l → Tidy (with_line d l).parts
   unfolding with_line
-  tidy_line tidy line.Broken c t = tidy
-  tidy_line tidy line.Empty c t = tidy
-  tidy_line tidy line.Outside c t = tidy
-  tidy_line tidy (line.Part e) c t = tidy_element d.parts tidy e
-  tidy_line tidy (line.Setting Drives n) c t = tidy_setting d.parts tidy Drives n
-  tidy_line tidy (line.Setting Output n) c t = tidy_setting d.parts tidy Output n
-  tidy_line tidy (line.Setting Rate n) c t = tidy_setting d.parts tidy Rate n
-  tidy_line tidy line.Curve c t = tidy_curve d.parts tidy c t
+  tidy_line tidy line.Broken t = tidy
+  tidy_line tidy line.Empty t = tidy
+  tidy_line tidy line.Outside t = tidy
+  tidy_line tidy (line.Part e) t = tidy_element d.parts tidy e
+  tidy_line tidy (line.Setting Drives n) t = tidy_setting d.parts tidy Drives n
+  tidy_line tidy (line.Setting Output n) t = tidy_setting d.parts tidy Output n
+  tidy_line tidy (line.Setting Rate n) t = tidy_setting d.parts tidy Rate n
+  tidy_line tidy (line.Curve c) t = tidy_curve d.parts tidy c t
 
   -- kept once is kept
   parts_twice : kept_header (kept_parts d.parts) ≡ kept_parts d.parts
   unfolding kept_header kept_parts
   parts_twice = simp twice
 
-  line_kept : Tidy d.parts → (l : Line) (c : Curve) → header_kept (with_line (kept_draft d) (kept_line l) (kept_curve c)) ≡ kept_draft (with_line d l c)
+  line_kept : Tidy d.parts → (l : Line) → header_kept (with_line (kept_draft d) (kept_line l)) ≡ kept_draft (with_line d l)
   unfolding with_line
-  line_kept tidy line.Broken c = rw parts_twice
-  line_kept tidy line.Empty c = rw parts_twice
-  line_kept tidy line.Outside c = rw parts_twice
-  line_kept tidy (line.Part e) c = rw (element_kept d.parts tidy e)
-  line_kept tidy (line.Setting Drives n) c = rw (setting_kept d.parts tidy Drives n)
-  line_kept tidy (line.Setting Output n) c = rw (setting_kept d.parts tidy Output n)
-  line_kept tidy (line.Setting Rate n) c = rw (setting_kept d.parts tidy Rate n)
-  line_kept tidy line.Curve c = rw (curve_kept d.parts tidy c)
+  line_kept tidy line.Broken = rw parts_twice
+  line_kept tidy line.Empty = rw parts_twice
+  line_kept tidy line.Outside = rw parts_twice
+  line_kept tidy (line.Part e) = rw (element_kept d.parts tidy e)
+  line_kept tidy (line.Setting Drives n) = rw (setting_kept d.parts tidy Drives n)
+  line_kept tidy (line.Setting Output n) = rw (setting_kept d.parts tidy Output n)
+  line_kept tidy (line.Setting Rate n) = rw (setting_kept d.parts tidy Rate n)
+  line_kept tidy (line.Curve c) = rw (curve_kept d.parts tidy c)
 
-  pub said_kept : (e : Draft) (x y : Said) → Tidy d.parts → e ≡ kept_draft d → x ≡ kept_said y → header_kept (with_line e x.line x.curve) ≡ kept_draft (with_line d y.line y.curve)
-  said_kept e x y tidy p q = rw (p, q) (line_kept tidy y.line y.curve)
+  pub said_kept : (e : Draft) (x y : Line) → Tidy d.parts → e ≡ kept_draft d → x ≡ kept_line y → header_kept (with_line e x) ≡ kept_draft (with_line d y)
+  said_kept e x y tidy p q = rw (p, q) (line_kept tidy y)
 
   -- a setting is noted, whatever is kept
   pub noted_kept : (field : Field) → noted (header_kept d) field ≡ header_kept (noted d field)
@@ -163,4 +162,4 @@ module _ (d : Draft) where
   fault_kept (line.Setting Drives n) = refl
   fault_kept (line.Setting Output n) = refl
   fault_kept (line.Setting Rate n) = refl
-  fault_kept line.Curve = refl
+  fault_kept (line.Curve c) = refl

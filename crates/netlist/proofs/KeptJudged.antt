@@ -2,6 +2,7 @@
 -- Assumes nothing.
 use mathlib.Core.Path.{◌≡◌, refl, sym, ap}
 use mathlib.Core.Bool.{Bool, true, false, cond}
+use Rattle.std.proofs.Common.{Ok, Err}
 use mathlib.Core.List.{List, [], ◌∷◌, map}
 use mathlib.Core.Logic.{⊎_elim}
 use Prim.Native.Nat.{ℕ, suc, ◌+◌, ◌-◌, ◌≤◌, ◌<◌}
@@ -18,16 +19,16 @@ use Rattle.units.proofs.Integers.{decide_n}
 use Rattle.units.proofs.Numbers.{done_only}
 use Rattle.network.specs.Network.{reading, breakpoint_count_limit, conductance_limit}
 use Rattle.image.specs.Judged.{judged}
-use Rattle.image.specs.Parts.{no_element, no_curve, no_parts, element_of, curve_of, header_fits, curve_size_fits, curve_sizes_fit, slope_fits, breakpoint_fits, rises, curve_fits, curves_fit, elements_fit}
+use Rattle.image.specs.Parts.{no_element, no_curve, element_of, curve_of, header_fits, curve_size_fits, curve_sizes_fit, slope_fits, breakpoint_fits, rises, curve_fits, curves_fit, elements_fit}
 use Rattle.image.specs.declared.parts.Curve.{Curve}
 use Rattle.image.specs.declared.parts.Parts.{Parts}
 use Rattle.image.proofs.Judging.{judged_keeps}
 use Rattle.image.proofs.Places.{element_there, curve_there}
 use Rattle.image.proofs.Says.{header_says}
-use Rattle.netlist.specs.Answer.{judged_answer, at_end}
+use Rattle.netlist.specs.Answer.{Answer, judged_answer, at_end}
 use Rattle.netlist.specs.Kept.{most_byte, most_word, word, kept_breakpoint, kept_element, kept_curve, kept_header, kept_parts, kept_draft}
 use Rattle.netlist.specs.declared.draft.Draft.{Draft}
-use Rattle.netlist.specs.declared.reader.Verdict.TheVariants as verdict
+use Rattle.netlist.specs.declared.reader.Refusal.TheVariants.{Rules}
 use Rattle.netlist.proofs.KeptCurves.{fits, TidyCurve}
 use Rattle.netlist.proofs.KeptDrafts.{Tidy, small_kept}
 use Rattle.netlist.proofs.KeptRules.{judged_same, small, header_kept_lem, breakpoint_small, curve_sizes_kept, curves_kept, element_small, elements_kept, conductances_kept}
@@ -92,10 +93,13 @@ module _ (parts : Parts) (tidy : Tidy parts) where
 
   -- the answer by the rules is the same
   answer_kept : judged_answer (kept_parts parts) ≡ judged_answer parts
-  answer_kept = rw (kept_judged parts) (ap (λ (p : Parts). record { verdict = verdict.Judged (judged parts); parts = p }) (go (eqb (number_of (judged parts)) 0) refl))
+  answer_kept = rw (kept_judged parts) (go (eqb (number_of (judged parts)) 0) refl)
     where
-      go : (t : Bool) → eqb (number_of (judged parts)) 0 ≡ t → cond t (kept_parts parts) no_parts ≡ cond t parts no_parts
-      go true e = all_kept (eqb-true (number_of (judged parts)) 0 e)
+      no : Answer
+      no = Err (Rules (judged parts))
+
+      go : (t : Bool) → eqb (number_of (judged parts)) 0 ≡ t → cond t (Ok (kept_parts parts)) no ≡ cond t (Ok parts) no
+      go true e = ap Ok (all_kept (eqb-true (number_of (judged parts)) 0 e))
       go false e = refl
 
 -- so the answer at the end is that of the lines' own numbers

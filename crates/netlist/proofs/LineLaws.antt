@@ -14,13 +14,12 @@ use Rattle.network.specs.Kind.{resistor_kind, diode_kind}
 use Rattle.image.specs.declared.parts.Curve.{Curve}
 use Rattle.std.specs.Prelude.{Some, None}
 use Rattle.ohms.specs.Worth.{Worth, stage}
-use Rattle.netlist.specs.Kept.{kept_line, kept_said, KeptOf, RightBy, Right}
-use Rattle.netlist.specs.Line.{same, value_place, opener_of, element_line, plain_line, just, SaysBy, Says}
+use Rattle.netlist.specs.Kept.{kept_line, Right}
+use Rattle.netlist.specs.Line.{same, value_place, opener_of, element_line, plain_line, SaysBy, Says}
 use Rattle.netlist.specs.declared.line.Opener.{Opener}
 use Rattle.netlist.specs.declared.line.Opener.TheVariants.{Empty, Resistor, Plain, Setting, Curves, Other}
 use Rattle.netlist.specs.declared.said.Line.{Line}
 use Rattle.netlist.specs.declared.said.Line.TheVariants as line
-use Rattle.netlist.specs.declared.said.Said.{Said}
 use Rattle.netlist.proofs.PlaceLaws.{stretches_once}
 
 -- ---- the same bytes
@@ -48,19 +47,13 @@ same_is (a ∷ s) (b ∷ t) e =
 -- ---- right answers
 
 -- what is said is right, as it is kept
-pub right_said : (Meant : Said → Type 0) (x : Said) → (x.line ≡ line.Broken → ⊥) → Meant x → Right Meant (kept_said x)
-right_said Meant x h m = go x.line h
-  where
-    kept : KeptOf Meant (kept_said x)
-    kept = record { whole = x; meant = m; kept = refl }
-
-    go : (l : Line) → (l ≡ line.Broken → ⊥) → RightBy Meant (kept_line l) (kept_said x)
-    go line.Broken h = absurd (h refl)
-    go line.Empty h = kept
-    go line.Outside h = kept
-    go (line.Part e) h = kept
-    go (line.Setting field n) h = kept
-    go line.Curve h = kept
+pub right_said : (Meant : Line → Type 0) (x : Line) → (x ≡ line.Broken → ⊥) → Meant x → Right Meant (kept_line x)
+right_said Meant line.Broken h m = absurd (h refl)
+right_said Meant line.Empty h m = record { whole = line.Empty; meant = m; kept = refl }
+right_said Meant line.Outside h m = record { whole = line.Outside; meant = m; kept = refl }
+right_said Meant (line.Part e) h m = record { whole = line.Part e; meant = m; kept = refl }
+right_said Meant (line.Setting field n) h m = record { whole = line.Setting field n; meant = m; kept = refl }
+right_said Meant (line.Curve c) h m = record { whole = line.Curve c; meant = m; kept = refl }
 
 -- a line with a value is not broken
 pub element_whole : (kind curve : ℕ) (s : List ℕ) (w : Worth) → element_line kind curve s w ≡ line.Broken → ⊥
@@ -77,15 +70,15 @@ plain_whole kind s = go (eqb kind diode_kind)
 -- ---- one reading
 
 -- by what it begins with
-pub says_by_once : (o : Opener) (s : List ℕ) (x y : Said) → SaysBy o s x → SaysBy o s y → x ≡ y
+pub says_by_once : (o : Opener) (s : List ℕ) (x y : Line) → SaysBy o s x → SaysBy o s y → x ≡ y
 says_by_once Empty s x y a b = a ∙ sym b
 says_by_once Resistor s x y a b =
     let same = value_once s (value_place s) (length s) (length s) a.worth b.worth a.value b.value in
-    a.says ∙ ap (λ (w : Worth). just (element_line resistor_kind 0 s w)) same.1 ∙ sym b.says
+    a.says ∙ ap (λ (w : Worth). element_line resistor_kind 0 s w) same.1 ∙ sym b.says
 says_by_once (Plain kind) s x y a b = a.says ∙ sym b.says
 says_by_once (Setting field) s x y a b = a.says ∙ sym b.says
-says_by_once Curves s x y a b = a.says ∙ ap (λ (c : Curve). record { line = line.Curve; curve = c }) (stretches_once a.numbers b.numbers) ∙ sym b.says
+says_by_once Curves s x y a b = a.says ∙ ap (λ (c : Curve). line.Curve c) (stretches_once a.numbers b.numbers) ∙ sym b.says
 says_by_once Other s x y a b = absurd a
 
-pub says_once : (s : List ℕ) (x y : Said) → Says s x → Says s y → x ≡ y
+pub says_once : (s : List ℕ) (x y : Line) → Says s x → Says s y → x ≡ y
 says_once s = says_by_once (opener_of s) s

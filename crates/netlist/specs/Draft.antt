@@ -1,13 +1,13 @@
 -- A circuit's parts as far as the lines have told them, in numbers of any size: a line that says a number which no field of the image holds is told as any
 -- other is, and the rules refuse the parts. Assumes nothing.
-use Rattle.std.specs.Prelude.{Bool, true, false, ◌&&◌, ℕ, suc, max, set}
+use Rattle.std.specs.Prelude.{Bool, true, false, ◌&&◌, Option, Some, None, ℕ, suc, max, set}
 use Rattle.image.specs.Parts.{version2, no_parts, in_version}
 use Rattle.image.specs.declared.parts.Curve.{Curve}
 use Rattle.image.specs.declared.parts.Element.{Element}
 use Rattle.image.specs.declared.parts.Parts.{Parts}
 use Rattle.netlist.specs.declared.draft.Draft.{Draft}
 use Rattle.netlist.specs.declared.draft.Fault.{Fault}
-use Rattle.netlist.specs.declared.draft.Fault.TheVariants.{Nothing, Grammar, Value}
+use Rattle.netlist.specs.declared.draft.Fault.TheVariants.{Grammar, Value}
 use Rattle.netlist.specs.declared.said.Line.{Line}
 use Rattle.netlist.specs.declared.said.Line.TheVariants.{Broken, Empty, Outside, Part, Setting}
 use Rattle.netlist.specs.declared.said.Line.TheVariants as line
@@ -83,18 +83,19 @@ said d Rate = d.rate
 abbrev pub complete : Draft → Bool
 complete d = d.drives && d.output && d.rate
 
--- what is wrong with a line after the lines so far: it is outside the grammar, also by saying a setting again; or a stage of its value is outside the limits
-abbrev pub again : Bool → Fault
-again true = Grammar
-again false = Nothing
+-- what is wrong with a line after the lines so far, if anything is: it is outside the grammar, also by saying a setting again; or a stage of its value is
+-- outside the limits
+abbrev pub again : Bool → Option Fault
+again true = Some Grammar
+again false = None
 
-unfoldable pub fault_of : Draft → Line → Fault
-fault_of d Broken = Grammar
-fault_of d Empty = Nothing
-fault_of d Outside = Value
-fault_of d (Part e) = Nothing
+unfoldable pub fault_of : Draft → Line → Option Fault
+fault_of d Broken = Some Grammar
+fault_of d Empty = None
+fault_of d Outside = Some Value
+fault_of d (Part e) = None
 fault_of d (Setting field n) = again (said d field)
-fault_of d line.Curve = Nothing
+fault_of d (line.Curve c) = None
 
 -- a draft with other parts, and one in which a setting has been said
 abbrev pub reparted : Draft → Parts → Draft
@@ -106,10 +107,10 @@ noted d Output = record { parts = d.parts; drives = d.drives; output = true; rat
 noted d Rate = record { parts = d.parts; drives = d.drives; output = d.output; rate = true }
 
 -- the draft with a line more
-unfoldable pub with_line : Draft → Line → Curve → Draft
-with_line d Broken c = d
-with_line d Empty c = d
-with_line d Outside c = d
-with_line d (Part e) c = reparted d (with_element d.parts e)
-with_line d (Setting field n) c = noted (reparted d (with_setting d.parts field n)) field
-with_line d line.Curve c = reparted d (with_curve d.parts c)
+unfoldable pub with_line : Draft → Line → Draft
+with_line d Broken = d
+with_line d Empty = d
+with_line d Outside = d
+with_line d (Part e) = reparted d (with_element d.parts e)
+with_line d (Setting field n) = noted (reparted d (with_setting d.parts field n)) field
+with_line d (line.Curve c) = reparted d (with_curve d.parts c)

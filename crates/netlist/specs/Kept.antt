@@ -8,7 +8,6 @@ use Rattle.netlist.specs.Draft.{reparted}
 use Rattle.netlist.specs.declared.draft.Draft.{Draft}
 use Rattle.netlist.specs.declared.said.Line.{Line}
 use Rattle.netlist.specs.declared.said.Line.TheVariants as line
-use Rattle.netlist.specs.declared.said.Said.{Said}
 
 -- ---- numbers
 
@@ -80,34 +79,28 @@ kept_draft d = reparted d (kept_parts d.parts)
 
 -- ---- lines
 
--- what a line says, without its curve and with it
+-- what a line says
 abbrev pub kept_line : Line → Line
 kept_line line.Broken = line.Broken
 kept_line line.Empty = line.Empty
 kept_line line.Outside = line.Outside
 kept_line (line.Part e) = line.Part (kept_element e)
 kept_line (line.Setting field n) = line.Setting field (word n)
-kept_line line.Curve = line.Curve
-
-abbrev pub kept_said : Said → Said
-kept_said x = record { line = kept_line x.line; curve = kept_curve x.curve }
+kept_line (line.Curve c) = line.Curve (kept_curve c)
 
 -- ---- right answers
 
 -- something that is meant, as it is kept
-pub record KeptOf (Meant : Said → Type 0) (x : Said) : Type 0 where
-  pub whole : Said
+pub record KeptOf (Meant : Line → Type 0) (x : Line) : Type 0 where
+  pub whole : Line
   pub meant : Meant whole
-  pub kept : x ≡ kept_said whole
+  pub kept : x ≡ kept_line whole
 
 -- an answer for a line is right: it is what is said, as that is kept, and Broken only if nothing can be
-abbrev pub RightBy : (Said → Type 0) → Line → Said → Type 0
-RightBy Meant line.Broken x = (y : Said) → Meant y → ⊥
-RightBy Meant line.Empty x = KeptOf Meant x
-RightBy Meant line.Outside x = KeptOf Meant x
-RightBy Meant (line.Part e) x = KeptOf Meant x
-RightBy Meant (line.Setting field n) x = KeptOf Meant x
-RightBy Meant line.Curve x = KeptOf Meant x
-
-abbrev pub Right : (Said → Type 0) → Said → Type 0
-Right Meant x = RightBy Meant x.line x
+abbrev pub Right : (Line → Type 0) → Line → Type 0
+Right Meant line.Broken = (y : Line) → Meant y → ⊥
+Right Meant line.Empty = KeptOf Meant line.Empty
+Right Meant line.Outside = KeptOf Meant line.Outside
+Right Meant (line.Part e) = KeptOf Meant (line.Part e)
+Right Meant (line.Setting field n) = KeptOf Meant (line.Setting field n)
+Right Meant (line.Curve c) = KeptOf Meant (line.Curve c)

@@ -19,7 +19,6 @@ use Rattle.netlist.specs.declared.line.Opener.{Opener}
 use Rattle.netlist.specs.declared.line.Opener.TheVariants.{Empty, Resistor, Plain, Setting, Curves, Other}
 use Rattle.netlist.specs.declared.said.Field.{Field}
 use Rattle.netlist.specs.declared.said.Field.TheVariants.{Drives, Output, Rate}
-use Rattle.netlist.specs.declared.said.Said.{Said}
 
 -- ---- what a line begins with
 
@@ -90,42 +89,38 @@ plain_line kind s =
 
 -- ---- what a line says
 
--- a line without a curve
-abbrev pub just : Line → Said
-just l = record { line = l; curve = no_curve }
-
 -- a resistor, whose value is all that remains of the line
-pub record ResistorLine (s : List ℕ) (x : Said) : Type 0 where
+pub record ResistorLine (s : List ℕ) (x : Line) : Type 0 where
   pub heads : headed s ≡ true
   pub worth : Worth
   pub value : Sum s most_open (value_place s) (length s) worth
-  pub says : x ≡ just (element_line resistor_kind 0 s worth)
+  pub says : x ≡ element_line resistor_kind 0 s worth
 
 -- another element, whose value is a number
-pub record PlainLine (kind : ℕ) (s : List ℕ) (x : Said) : Type 0 where
+pub record PlainLine (kind : ℕ) (s : List ℕ) (x : Line) : Type 0 where
   pub heads : headed s ≡ true
   pub value : ends s (value_place s) ≡ true
-  pub says : x ≡ just (plain_line kind s)
+  pub says : x ≡ plain_line kind s
 
 -- a setting and its number
-pub record SettingLine (field : Field) (s : List ℕ) (x : Said) : Type 0 where
+pub record SettingLine (field : Field) (s : List ℕ) (x : Line) : Type 0 where
   pub value : ends s (after_name s) ≡ true
-  pub says : x ≡ just (line.Setting field (worth_at s (after_name s)))
+  pub says : x ≡ line.Setting field (worth_at s (after_name s))
 
 -- a curve, whose numbers stand from i on
-pub record CurveLine (s : List ℕ) (i : ℕ) (x : Said) : Type 0 where
+pub record CurveLine (s : List ℕ) (i : ℕ) (x : Line) : Type 0 where
   pub curve : Curve
   pub numbers : Stretches s i no_curve curve
-  pub says : x ≡ record { line = line.Curve; curve = curve }
+  pub says : x ≡ line.Curve curve
 
 -- x is what the line says, by what it begins with
-abbrev pub SaysBy : Opener → List ℕ → Said → Type 0
-SaysBy Empty s x = x ≡ just line.Empty
+abbrev pub SaysBy : Opener → List ℕ → Line → Type 0
+SaysBy Empty s x = x ≡ line.Empty
 SaysBy Resistor s x = ResistorLine s x
 SaysBy (Plain kind) s x = PlainLine kind s x
 SaysBy (Setting field) s x = SettingLine field s x
 SaysBy Curves s x = CurveLine s (after_name s) x
 SaysBy Other s x = ⊥
 
-abbrev pub Says : List ℕ → Said → Type 0
+abbrev pub Says : List ℕ → Line → Type 0
 Says s = SaysBy (opener_of s) s

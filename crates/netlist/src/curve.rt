@@ -1,11 +1,11 @@
 // A curve's numbers, from a place of its line to the end.
-ghost use Rattle.std.specs.Prelude.{◌≡◌, set};
+ghost use Rattle.std.specs.Prelude.{◌≡◌};
 ghost use Rattle.netlist.specs.Curve.{minus_at, digits_at, breakpoint_at, stretch_stands, after_stretch, with_stretch, with_slope};
 ghost use Rattle.netlist.specs.Kept.{kept_breakpoint, kept_count, Right};
 ghost use Rattle.netlist.specs.Line.{CurveLine};
 
-use super::said::{Line, Said};
-use super::{field, said};
+use super::said::Line;
+use super::{field, store};
 use console::words::Run;
 use console::{number, words};
 use image::Curve;
@@ -52,40 +52,17 @@ fn after_stretch(s: &[u8], at: usize) -> usize
     field::next(Run::Digits, s, digits_at(s, breakpoint))
 }
 
-// A store, if the array has the place: what is past its room is only counted.
-fn with_slope_at(slopes: [u32; 17], j: usize, slope: u32) -> [u32; 17]
-    ensures { result ≡ set slopes j slope }
-{
-    let mut more = slopes;
-    if j < 17 {
-        more[j] = slope;
-    }
-    more
-}
-
-fn with_breakpoint_at(breakpoints: [i32; 16], j: usize, breakpoint: i32) -> [i32; 16]
-    ensures { result ≡ set breakpoints j breakpoint }
-{
-    let mut more = breakpoints;
-    if j < 16 {
-        more[j] = breakpoint;
-    }
-    more
-}
-
 // The curve with a slope and a breakpoint more.
 fn with_stretch(c: Curve, slope: u32, breakpoint: i32) -> Curve
     ensures { result ≡ kept_count (with_stretch c slope breakpoint) }
 {
-    let slopes = c.slopes;
-    let breakpoints = c.breakpoints;
     let j = c.count as usize;
-    let more_slopes = with_slope_at(slopes, j, slope);
-    let more_breakpoints = with_breakpoint_at(breakpoints, j, breakpoint);
+    let slopes = store::set_at(c.slopes, j, slope);
+    let breakpoints = store::set_at(c.breakpoints, j, breakpoint);
     Curve {
         count: field::counted(c.count),
-        slopes: more_slopes,
-        breakpoints: more_breakpoints,
+        slopes,
+        breakpoints,
     }
 }
 
@@ -93,18 +70,17 @@ fn with_stretch(c: Curve, slope: u32, breakpoint: i32) -> Curve
 fn with_slope(c: Curve, slope: u32) -> Curve
     ensures { result ≡ with_slope c slope }
 {
-    let slopes = c.slopes;
+    let slopes = store::set_at(c.slopes, c.count as usize, slope);
     let breakpoints = c.breakpoints;
-    let more_slopes = with_slope_at(slopes, c.count as usize, slope);
     Curve {
         count: c.count,
-        slopes: more_slopes,
+        slopes,
         breakpoints,
     }
 }
 
 // The curve that the numbers from a place on are, or a broken line.
-pub fn read(s: &[u8], from: usize) -> Said
+pub fn read(s: &[u8], from: usize) -> Line
     ensures { Right (CurveLine s.now from) result }
 {
     let mut curve = image::no_curve();
@@ -116,11 +92,7 @@ pub fn read(s: &[u8], from: usize) -> Said
         at = after_stretch(s, at);
     }
     if !field::ends(s, at) {
-        return said::just(Line::Broken);
+        return Line::Broken;
     }
-    let whole = with_slope(curve, field::word(s, at));
-    Said {
-        line: Line::Curve,
-        curve: whole,
-    }
+    Line::Curve(with_slope(curve, field::word(s, at)))
 }

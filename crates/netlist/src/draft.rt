@@ -1,10 +1,10 @@
 // A circuit's parts as far as the lines have told them, and which settings these have said.
-ghost use Rattle.std.specs.Prelude.{◌≡◌, max, set};
+ghost use Rattle.std.specs.Prelude.{◌≡◌};
 ghost use Rattle.netlist.specs.Draft.{with_element, with_curve, with_setting, blank_draft, said, complete, fault_of, reparted, noted, with_line};
 ghost use Rattle.netlist.specs.Kept.{kept_header, header_kept};
 
-use super::field;
 use super::said::{Field, Line};
+use super::{field, store};
 use image::{Curve, Element, Parts};
 
 // The parts, and whether `drives`, `output` and `rate` have been said.
@@ -16,10 +16,9 @@ pub struct Draft {
     pub rate: bool,
 }
 
-// What is wrong with a line: nothing, that it is outside the grammar, or its value.
+// What is wrong with a line: that it is outside the grammar, or its value.
 #[derive(Clone, Copy)]
 pub enum Fault {
-    Nothing,
     Grammar,
     Value,
 }
@@ -37,47 +36,14 @@ pub fn blank() -> Draft
     }
 }
 
-// The higher of two nodes.
-fn highest(a: u8, b: u8) -> u8
-    ensures { result ≡ max a b }
-{
-    if a < b {
-        return b;
-    }
-    a
-}
-
-// A store, if the array has the place: what is past its room is only counted.
-fn with_element_at(elements: [Element; 32], j: usize, e: Element) -> [Element; 32]
-    ensures { result ≡ set elements j e }
-{
-    let mut more = elements;
-    if j < 32 {
-        more[j] = e;
-    }
-    more
-}
-
-fn with_curve_at(curves: [Curve; 8], k: usize, c: Curve) -> [Curve; 8]
-    ensures { result ≡ set curves k c }
-{
-    let mut more = curves;
-    if k < 8 {
-        more[k] = c;
-    }
-    more
-}
-
 // The parts with an element more.
 fn with_element(parts: Parts, e: Element) -> Parts
     ensures { result ≡ kept_header (with_element parts e) }
 {
-    let elements = parts.elements;
-    let more_elements = with_element_at(elements, parts.element_count as usize, e);
     let mut more = parts;
-    more.elements = more_elements;
+    more.elements = store::set_at(parts.elements, parts.element_count as usize, e);
     more.element_count = field::counted(parts.element_count);
-    more.nodes = highest(parts.nodes, highest(e.p, e.q));
+    more.nodes = parts.nodes.max(e.p.max(e.q));
     more
 }
 
@@ -85,10 +51,8 @@ fn with_element(parts: Parts, e: Element) -> Parts
 fn with_curve(parts: Parts, c: Curve) -> Parts
     ensures { result ≡ kept_header (with_curve parts c) }
 {
-    let curves = parts.curves;
-    let more_curves = with_curve_at(curves, parts.curve_count as usize, c);
     let mut more = parts;
-    more.curves = more_curves;
+    more.curves = store::set_at(parts.curves, parts.curve_count as usize, c);
     more.curve_count = field::counted(parts.curve_count);
     more
 }
@@ -105,7 +69,7 @@ fn with_setting(parts: Parts, field: Field, n: u32) -> Parts
         Field::Output => {
             let node = field::narrow(n);
             more.output = node;
-            more.nodes = highest(parts.nodes, node);
+            more.nodes = parts.nodes.max(node);
         }
         Field::Rate => {
             more.rate = n;
@@ -132,22 +96,22 @@ pub fn complete(draft: Draft) -> bool
     draft.drives & draft.output & draft.rate
 }
 
-// What is wrong with a line after those before it.
-pub fn fault_in(draft: Draft, line: Line) -> Fault
+// What is wrong with a line after those before it, if anything is.
+pub fn fault_in(draft: Draft, line: Line) -> Option<Fault>
     ensures { result ≡ fault_of draft line }
 {
     match line {
-        Line::Broken => Fault::Grammar,
-        Line::Outside => Fault::Value,
-        Line::Setting(field, n) => {
+        Line::Broken => Some(Fault::Grammar),
+        Line::Outside => Some(Fault::Value),
+        Line::Setting(field, _) => {
             if has_said(draft, field) {
-                return Fault::Grammar;
+                return Some(Fault::Grammar);
             }
-            Fault::Nothing
+            None
         }
-        Line::Empty => Fault::Nothing,
-        Line::Part(e) => Fault::Nothing,
-        Line::Curve => Fault::Nothing,
+        Line::Empty => None,
+        Line::Part(_) => None,
+        Line::Curve(_) => None,
     }
 }
 
@@ -180,8 +144,8 @@ fn noted(draft: Draft, field: Field) -> Draft
 }
 
 // The draft with a line more.
-pub fn with_line(draft: Draft, line: Line, curve: Curve) -> Draft
-    ensures { result ≡ header_kept (with_line draft line curve) }
+pub fn with_line(draft: Draft, line: Line) -> Draft
+    ensures { result ≡ header_kept (with_line draft line) }
 {
     let parts = draft.parts;
     match line {
@@ -190,6 +154,6 @@ pub fn with_line(draft: Draft, line: Line, curve: Curve) -> Draft
         Line::Outside => draft,
         Line::Part(e) => reparted(draft, with_element(parts, e)),
         Line::Setting(field, n) => noted(reparted(draft, with_setting(parts, field, n)), field),
-        Line::Curve => reparted(draft, with_curve(parts, curve)),
+        Line::Curve(curve) => reparted(draft, with_curve(parts, curve)),
     }
 }

@@ -1,5 +1,5 @@
 // Words and numbers on a line, by their places.
-ghost use Rattle.std.specs.Prelude.{◌≡◌, suc, min};
+ghost use Rattle.std.specs.Prelude.{◌≡◌, suc};
 ghost use Rattle.console.specs.Number.{worth_at};
 ghost use Rattle.netlist.specs.Curve.{next, stands, ends};
 ghost use Rattle.netlist.specs.Kept.{byte, word, size};
@@ -37,47 +37,37 @@ pub fn ends(s: &[u8], at: usize) -> bool
     (at < end) & (words::past(Run::Blanks, s, end) == s.len())
 }
 
-// A number, or the greatest that a field holds.
-fn least(n: u64, most: u64) -> u64
-    ensures { result ≡ min n most }
-{
-    if n < most {
-        return n;
-    }
-    most
-}
-
 // The number at a place, as a field of one byte.
 pub fn byte(s: &[u8], at: usize) -> u8
     ensures { result ≡ byte (worth_at s.now at) }
 {
-    least(number::worth_at(s, at), MOST_BYTE) as u8
+    number::worth_at(s, at).min(MOST_BYTE) as u8
 }
 
 // The number at a place, as a field of four.
 pub fn word(s: &[u8], at: usize) -> u32
     ensures { result ≡ word (worth_at s.now at) }
 {
-    least(number::worth_at(s, at), MOST_WORD) as u32
+    number::worth_at(s, at).min(MOST_WORD) as u32
 }
 
 // The size of a breakpoint: a field of four with a sign.
 pub fn size(s: &[u8], at: usize) -> u64
     ensures { result ≡ size (worth_at s.now at) }
 {
-    least(number::worth_at(s, at), MOST_SIZE)
+    number::worth_at(s, at).min(MOST_SIZE)
 }
 
 // A number of four bytes, as a field of one.
 pub fn narrow(n: u32) -> u8
     ensures { result ≡ byte n }
 {
-    least(n as u64, MOST_BYTE) as u8
+    n.min(MOST_BYTE as u32) as u8
 }
 
 // A count with one more, held to one byte.
 pub fn counted(n: u8) -> u8
     ensures { result ≡ byte (suc n) }
 {
-    least(n as u64 + 1, MOST_BYTE) as u8
+    n.saturating_add(1)
 }

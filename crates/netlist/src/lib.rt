@@ -8,6 +8,7 @@ mod field;
 mod line;
 mod reader;
 mod said;
+mod store;
 
 pub use field::{byte, narrow};
-pub use reader::{Answer, Verdict, line_of, number_of, read};
+pub use reader::{Refusal, read};

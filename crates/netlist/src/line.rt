@@ -6,8 +6,8 @@ ghost use Rattle.netlist.specs.Kept.{kept_line, Right};
 ghost use Rattle.netlist.specs.Line.{same, by_letter, by_word, opener_of, after_name, second_node, value_place, headed, element_line, plain_line, SaysBy, Says};
 ghost use Rattle.netlist.specs.declared.line.Opener.TheVariants.{Resistor, Plain, Setting};
 
-use super::said::{Field, Line, Said};
-use super::{curve, field, said};
+use super::said::{Field, Line};
+use super::{curve, field};
 use console::words::Run;
 use console::{number, words};
 use image::Element;
@@ -137,60 +137,60 @@ fn plain_line(kind: u8, s: &[u8]) -> Line
 }
 
 // A resistor, whose value is all that remains.
-fn resistor(s: &[u8]) -> Said
+fn resistor(s: &[u8]) -> Line
     ensures { Right (SaysBy Resistor s.now) result }
 {
     if !headed(s) {
-        return said::just(Line::Broken);
+        return Line::Broken;
     }
     match ohms::value(s, value_place(s)) {
         Some(found) if found.end == s.len() => {
-            said::just(element_line(kind::RESISTOR as u8, 0, s, found.worth))
+            element_line(kind::RESISTOR as u8, 0, s, found.worth)
         }
-        _ => said::just(Line::Broken),
+        _ => Line::Broken,
     }
 }
 
 // Another element, whose value is a number.
-fn plain(kind: u8, s: &[u8]) -> Said
+fn plain(kind: u8, s: &[u8]) -> Line
     ensures { Right (SaysBy (Plain kind) s.now) result }
 {
     if !headed(s) {
-        return said::just(Line::Broken);
+        return Line::Broken;
     }
     if !field::ends(s, value_place(s)) {
-        return said::just(Line::Broken);
+        return Line::Broken;
     }
-    said::just(plain_line(kind, s))
+    plain_line(kind, s)
 }
 
 // A setting and its number.
-fn setting(field: Field, s: &[u8]) -> Said
+fn setting(field: Field, s: &[u8]) -> Line
     ensures { Right (SaysBy (Setting field) s.now) result }
 {
     let at = after_name(s);
     if !field::ends(s, at) {
-        return said::just(Line::Broken);
+        return Line::Broken;
     }
-    said::just(Line::Setting(field, field::word(s, at)))
+    Line::Setting(field, field::word(s, at))
 }
 
 // By what it begins with.
-fn say(s: &[u8]) -> Said
+fn say(s: &[u8]) -> Line
     ensures { Right (Says s.now) result }
 {
     match opened(s) {
-        Opener::Empty => said::just(Line::Empty),
+        Opener::Empty => Line::Empty,
         Opener::Resistor => resistor(s),
         Opener::Plain(kind) => plain(kind, s),
         Opener::Setting(field) => setting(field, s),
         Opener::Curves => curve::read(s, after_name(s)),
-        Opener::Other => said::just(Line::Broken),
+        Opener::Other => Line::Broken,
     }
 }
 
 // What a line says, up to its comment.
-pub fn read(line: &[u8]) -> Said
+pub fn read(line: &[u8]) -> Line
     ensures { Right (Says (first run.Said line.now)) result }
 {
     say(words::first(Run::Said, line))

@@ -1,7 +1,4 @@
 // What a line says.
-ghost use Rattle.std.specs.Prelude.{◌≡◌};
-ghost use Rattle.netlist.specs.Line.{just};
-
 use image::{Curve, Element};
 
 // What a circuit has one of.
@@ -13,7 +10,7 @@ pub enum Field {
 }
 
 // Nothing that the grammar has; nothing; an element, a stage of whose value is outside the limits; an
-// element; a setting; a curve, which stands beside it.
+// element; a setting; a curve.
 #[derive(Clone, Copy)]
 pub enum Line {
     Broken,
@@ -21,19 +18,5 @@ pub enum Line {
     Outside,
     Part(Element),
     Setting(Field, u32),
-    Curve,
-}
-
-#[derive(Clone, Copy)]
-pub struct Said {
-    pub line: Line,
-    pub curve: Curve,
-}
-
-// A line without a curve.
-pub fn just(line: Line) -> Said
-    ensures { result ≡ just line }
-{
-    let curve = image::no_curve();
-    Said { line, curve }
+    Curve(Curve),
 }

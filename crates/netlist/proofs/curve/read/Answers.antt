@@ -29,11 +29,10 @@ pub returns-then-not-ends : goal.returns-then-not-ends
 returns-then-not-ends c =
     let l = c.loop-slope in
     let s = c.args.s.now in
-    rw c.just.ensures
-    (λ y says. drawing_broken s c.args.from l.at l.invariant.whole l.invariant.drawing (sym c.stretch_stands.ensures ∙ c.loop-slope-test.false) (sym c.ends.ensures ∙ c.if-not-ends.true) says.numbers)
+    λ y says. drawing_broken s c.args.from l.at l.invariant.whole l.invariant.drawing (sym c.stretch_stands.ensures ∙ c.loop-slope-test.false) (sym c.ends.ensures ∙ c.if-not-ends.true) says.numbers
 
 pub returns : goal.returns
 returns c =
     let l = c.loop-slope in
-    rw (c.with_slope-whole.ensures, c.word.ensures)
+    rw (c.with_slope.ensures, c.word.ensures)
     (drawn_last _ _ _ _ l.invariant (sym c.ends.ensures ∙ c.if-not-ends.false))

@@ -3,4 +3,4 @@ use Rattle.netlist.proofs.curve.with_slope.Goals as goal
 
 pub returns : goal.returns
 unfolding with_slope
-returns c = rw c.with_slope_at-more_slopes.ensures
+returns c = rw c.set_at-slopes.ensures

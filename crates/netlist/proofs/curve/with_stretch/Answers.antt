@@ -11,4 +11,4 @@ unfolding with_stretch kept_count
 returns c =
     let a = c.args in
     let b : to_z w32 (of_z w32 a.breakpoint) ≡ a.breakpoint = search rules in
-    rw (c.counted.ensures, c.with_breakpoint_at-more_breakpoints.ensures, c.with_slope_at-more_slopes.ensures, b)
+    rw (c.counted.ensures, c.set_at-breakpoints.ensures, c.set_at-slopes.ensures, b)

@@ -8,4 +8,4 @@ pub returns : goal.returns
 unfolding with_curve kept_header
 returns c =
     let a = c.args.parts in
-    rw (c.counted.ensures, c.with_curve_at-more_curves.ensures, fits a.nodes most_byte (search rules), fits a.driven most_byte (search rules), fits a.output most_byte (search rules), fits a.rate most_word (search rules), fits a.element_count most_byte (search rules))
+    rw (c.counted.ensures, c.set_at-more.ensures, fits a.nodes most_byte (search rules), fits a.driven most_byte (search rules), fits a.output most_byte (search rules), fits a.rate most_word (search rules), fits a.element_count most_byte (search rules))

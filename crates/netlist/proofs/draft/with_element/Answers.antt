@@ -9,4 +9,4 @@ unfolding with_element kept_header
 returns c =
     let e = c.args.e in
     let a = c.args.parts in
-    rw (c.highest-2.ensures, c.highest.ensures, c.counted.ensures, c.with_element_at-more_elements.ensures, higher, higher, fits a.nodes most_byte (search rules), fits e.p most_byte (search rules), fits e.q most_byte (search rules), fits a.driven most_byte (search rules), fits a.output most_byte (search rules), fits a.rate most_word (search rules), fits a.curve_count most_byte (search rules))
+    rw (c.max-2.ensures, c.max.ensures, c.counted.ensures, c.set_at-more.ensures, higher, higher, fits a.nodes most_byte (search rules), fits e.p most_byte (search rules), fits e.q most_byte (search rules), fits a.driven most_byte (search rules), fits a.output most_byte (search rules), fits a.rate most_word (search rules), fits a.curve_count most_byte (search rules))

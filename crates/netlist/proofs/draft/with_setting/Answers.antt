@@ -14,7 +14,7 @@ pub returns-in-Output : goal.returns-in-Output
 unfolding with_setting kept_header
 returns-in-Output c =
     let a = c.args.parts in
-    rw (c.in-Output.is, c.highest.ensures, c.narrow-node.ensures, higher, fits a.nodes most_byte (search rules), fits a.driven most_byte (search rules), fits a.rate most_word (search rules), fits a.element_count most_byte (search rules), fits a.curve_count most_byte (search rules))
+    rw (c.in-Output.is, c.max.ensures, c.narrow-node.ensures, higher, fits a.nodes most_byte (search rules), fits a.driven most_byte (search rules), fits a.rate most_word (search rules), fits a.element_count most_byte (search rules), fits a.curve_count most_byte (search rules))
 
 pub returns-in-Rate : goal.returns-in-Rate
 unfolding with_setting kept_header

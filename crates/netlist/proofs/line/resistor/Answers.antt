@@ -2,30 +2,28 @@ use mathlib.Core.Path.{refl, sym, ◌∙◌}
 use lib.ListN.{length}
 use Rattle.network.specs.Kind.{resistor_kind}
 use Rattle.ohms.proofs.Promise.{value_once}
-use Rattle.netlist.specs.Kept.{kept_curve}
-use Rattle.netlist.specs.Line.{value_place, element_line, just, ResistorLine}
+use Rattle.netlist.specs.Line.{value_place, element_line, ResistorLine}
 use Rattle.netlist.proofs.LineLaws.{right_said, element_whole}
 use Rattle.netlist.proofs.line.resistor.Goals.{in_default-via-in-Some+else-found-s, in_default-via-in_default}
 use Rattle.netlist.proofs.line.resistor.Goals as goal
 
 pub returns-in-Some : goal.returns-in-Some
-unfolding kept_curve
 returns-in-Some c =
     let s = c.args.s.now in
     let found = c.in-Some.found in
     let v = rw c.value_place.ensures at c.in-Some.ensures in
-    let says : ResistorLine s (just (element_line resistor_kind 0 s found.worth)) = record {
+    let says : ResistorLine s (element_line resistor_kind 0 s found.worth) = record {
       heads = sym c.headed.ensures ∙ c.if-not-headed.false;
       worth = found.worth;
       value = rw c.if-found-s.true at v;
       says = refl;
     } in
-    rw (c.just-in-Some.ensures, c.element_line.ensures) (right_said (ResistorLine s) (just (element_line resistor_kind 0 s found.worth)) (element_whole resistor_kind 0 s found.worth) says)
+    rw c.element_line.ensures (right_said (ResistorLine s) (element_line resistor_kind 0 s found.worth) (element_whole resistor_kind 0 s found.worth) says)
 
 pub returns-in_default : goal.returns-in_default
 returns-in_default c =
     let s = c.args.s.now in
-    rw c.just-in_default.ensures (λ y says. elim c.in_default.branch [
+    λ y says. elim c.in_default.branch [
       | in_default-via-in-Some+else-found-s w ↦ w.if-found-s.false (value_once s (value_place s) _ (length s) _ says.worth (rw c.value_place.ensures at w.in-Some.ensures) says.value).0
       | in_default-via-in_default w ↦ (rw c.value_place.ensures at w.in_default.ensures) (length s) says.worth says.value
-    ])
+    ]
