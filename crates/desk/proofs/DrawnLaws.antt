@@ -13,9 +13,8 @@ use Rattle.units.specs.Table.{between}
 use Rattle.units.proofs.Integers.{decide_n}
 use Rattle.image.specs.Parts.{version1, version2, in_version}
 use Rattle.image.proofs.Versions.{none_above}
-use Rattle.netlist.specs.Answer.{number_of, line_of, Answers}
+use Rattle.netlist.specs.Answer.{Answer, answer_number, answer_line, answer_parts, Answers}
 use Rattle.netlist.specs.Kept.{most_byte, byte}
-use Rattle.netlist.specs.declared.reader.Answer.{Answer}
 use Rattle.writing.specs.Writes.{buffer_beside, Writes}
 use Rattle.writing.specs.declared.writer.Written.{Written}
 use Rattle.writing.proofs.Promise.{version_answer}
@@ -24,10 +23,10 @@ use Rattle.desk.proofs.Counts.{line_small}
 
 module _ (version : ℕ) (text before : List ℕ) (a : Answer) (answers : Answers text a) where
   -- a text that is refused leaves the buffer as it was
-  pub drawn_refused : {n line r : ℕ} → n ≡ number_of a.verdict → line ≡ line_of a.verdict → (n ≡ 0 → ⊥) → r ≡ n * number_unit + line → Drawn version text before r before
+  pub drawn_refused : {n line r : ℕ} → n ≡ answer_number a → line ≡ answer_line a → (n ≡ 0 → ⊥) → r ≡ n * number_unit + line → Drawn version text before r before
   unfolding call_number call_count
   drawn_refused number named some packed =
-      let no = ne_eqb (number_of a.verdict) 0 (λ e. some (number ∙ e)) in
+      let no = ne_eqb (answer_number a) 0 (λ e. some (number ∙ e)) in
       record {
         answer = a;
         answers = answers;
@@ -37,10 +36,10 @@ module _ (version : ℕ) (text before : List ℕ) (a : Answer) (answers : Answer
       }
 
   -- one that passes is answered as the writer does
-  pub drawn_written : number_of a.verdict ≡ 0 → {w : Written} {after : List ℕ} {r : ℕ} → Writes (in_version version a.parts) before w after → w.length < number_unit → r ≡ w.number * number_unit + w.length → Drawn version text before r after
+  pub drawn_written : answer_number a ≡ 0 → {w : Written} {after : List ℕ} {r : ℕ} → Writes (in_version version (answer_parts a)) before w after → w.length < number_unit → r ≡ w.number * number_unit + w.length → Drawn version text before r after
   unfolding call_number call_count
   drawn_written e writes short packed =
-      let yes = eq-eqb (number_of a.verdict) 0 e in
+      let yes = eq-eqb (answer_number a) 0 e in
       record {
         answer = a;
         answers = answers;
@@ -53,18 +52,18 @@ module _ (version : ℕ) (text before : List ℕ) (a : Answer) (answers : Answer
 
 module _ (before : List ℕ) (v : ℕ) (none : between version1 version2 v ≡ false) (a : Answer) where
   -- no version of those that there are not writes anything
-  none_number : call_number v a (length before) ≡ cond (eqb (number_of a.verdict) 0) 2 (number_of a.verdict)
+  none_number : call_number v a (length before) ≡ cond (eqb (answer_number a) 0) 2 (answer_number a)
   unfolding call_number
-  none_number = rw (version_answer v a.parts (length before) none)
+  none_number = rw (version_answer v (answer_parts a) (length before) none)
 
-  none_count : call_count v a (length before) ≡ cond (eqb (number_of a.verdict) 0) 0 (line_of a.verdict)
+  none_count : call_count v a (length before) ≡ cond (eqb (answer_number a) 0) 0 (answer_line a)
   unfolding call_count
-  none_count = rw (version_answer v a.parts (length before) none)
+  none_count = rw (version_answer v (answer_parts a) (length before) none)
 
-  none_written : buffer_beside (call_number v a (length before)) (in_version v a.parts) before ≡ before
-  none_written = rw none_number (go (eqb (number_of a.verdict) 0) refl)
+  none_written : buffer_beside (call_number v a (length before)) (in_version v (answer_parts a)) before ≡ before
+  none_written = rw none_number (go (eqb (answer_number a) 0) refl)
     where
-      go : (t : Bool) → eqb (number_of a.verdict) 0 ≡ t → buffer_beside (cond t 2 (number_of a.verdict)) (in_version v a.parts) before ≡ before
+      go : (t : Bool) → eqb (answer_number a) 0 ≡ t → buffer_beside (cond t 2 (answer_number a)) (in_version v (answer_parts a)) before ≡ before
       go true e = refl
       go false e = rw e
 

@@ -12,8 +12,7 @@ use Rattle.units.specs.Table.{between}
 use Rattle.image.specs.Format.{longest}
 use Rattle.image.specs.Parts.{version1, version2, in_version}
 use Rattle.image.proofs.Versions.{version_passes}
-use Rattle.netlist.specs.Answer.{number_of, Answers}
-use Rattle.netlist.specs.declared.reader.Answer.{Answer}
+use Rattle.netlist.specs.Answer.{Answer, answer_number, answer_parts, Answers}
 use Rattle.netlist.proofs.Promise.{answer_once, accepted_judged}
 use Rattle.writing.specs.Writes.{answer_for, buffer_beside}
 use Rattle.writing.proofs.Longest.{answers_enough}
@@ -26,7 +25,7 @@ drawn_once version text before x y =
     let room = length before in
     let same = answer_once text x.answers y.answers in (
       x.packed ∙ ap (λ (a : Answer). call_number version a room * number_unit + call_count version a room) same ∙ sym y.packed,
-      x.buffer ∙ ap (λ (a : Answer). buffer_beside (call_number version a room) (in_version version a.parts) before) same ∙ sym y.buffer,
+      x.buffer ∙ ap (λ (a : Answer). buffer_beside (call_number version a room) (in_version version (answer_parts a)) before) same ∙ sym y.buffer,
     )
 
 -- the header's two macros
@@ -37,17 +36,17 @@ pub drawn_count : (version : ℕ) (text before : List ℕ) {r : ℕ} {after : Li
 drawn_count version text before x = rw x.packed (omega (arith, x.small))
 
 -- with so many bytes, and in a version that there is, the number is the reader's
-pub room_enough : (version : ℕ) (text : List ℕ) (a : Answer) (room : ℕ) → Answers text a → between version1 version2 version ≡ true → longest ≤ room → call_number version a room ≡ number_of a.verdict
+pub room_enough : (version : ℕ) (text : List ℕ) (a : Answer) (room : ℕ) → Answers text a → between version1 version2 version ≡ true → longest ≤ room → call_number version a room ≡ answer_number a
 unfolding call_number
-room_enough version text a room answers there h = go (eqb (number_of a.verdict) 0) refl
+room_enough version text a room answers there h = go (eqb (answer_number a) 0) refl
   where
-    go : (t : Bool) → eqb (number_of a.verdict) 0 ≡ t → cond t (answer_for (in_version version a.parts) room) (number_of a.verdict) ≡ number_of a.verdict
+    go : (t : Bool) → eqb (answer_number a) 0 ≡ t → cond t (answer_for (in_version version (answer_parts a)) room) (answer_number a) ≡ answer_number a
     go true e =
-        let passed = eqb-true (number_of a.verdict) 0 e in
-        answers_enough (in_version version a.parts) room (version_passes version a.parts there (accepted_judged text answers passed)) h ∙ sym passed
+        let passed = eqb-true (answer_number a) 0 e in
+        answers_enough (in_version version (answer_parts a)) room (version_passes version (answer_parts a) there (accepted_judged text answers passed)) h ∙ sym passed
     go false e = refl
 
 -- in one that there is not, a text that the reader lets pass is refused by 2
-pub version_2 : (version : ℕ) (a : Answer) (room : ℕ) → number_of a.verdict ≡ 0 → between version1 version2 version ≡ false → call_number version a room ≡ 2
+pub version_2 : (version : ℕ) (a : Answer) (room : ℕ) → answer_number a ≡ 0 → between version1 version2 version ≡ false → call_number version a room ≡ 2
 unfolding call_number
-version_2 version a room passed none = rw (passed, version_answer version a.parts room none)
+version_2 version a room passed none = rw (passed, version_answer version (answer_parts a) room none)

@@ -20,8 +20,7 @@ use Rattle.image.specs.declared.parts.Parts.{Parts}
 use Rattle.image.proofs.Judging.{judged_keeps, judged_sound}
 use Rattle.image.proofs.Places.{element_there}
 use Rattle.image.proofs.Says.{header_says}
-use Rattle.netlist.specs.Answer.{number_of, Answers}
-use Rattle.netlist.specs.declared.reader.Answer.{Answer}
+use Rattle.netlist.specs.Answer.{Answer, answer_number, answer_parts, Answers}
 use Rattle.netlist.proofs.KeptRules.{element_small}
 use Rattle.netlist.proofs.Promise.{accepted_judged}
 use Rattle.netlist.proofs.ValueLaws.{ValuesFit, values_fit}
@@ -85,7 +84,7 @@ version_in_widths version parts w small = record {
 }
 
 -- the parts that a text is answered by fit, if its number is 0
-pub in_widths : (text : List ℕ) {a : Answer} → Answers text a → number_of a.verdict ≡ 0 → (version : ℕ) → between version1 version2 version ≡ true → InWidths (in_version version a.parts)
+pub in_widths : (text : List ℕ) {a : Answer} → Answers text a → answer_number a ≡ 0 → (version : ℕ) → between version1 version2 version ≡ true → InWidths (in_version version (answer_parts a))
 in_widths text {a = a} h e version there =
     let low-high = between_says version1 version2 version there in
-    version_in_widths version a.parts (parts_in_widths a.parts (accepted_judged text h e) (values_fit text h)) (omega (arith, low-high.1))
+    version_in_widths version (answer_parts a) (parts_in_widths (answer_parts a) (accepted_judged text h e) (values_fit text h)) (omega (arith, low-high.1))

@@ -22,15 +22,13 @@ fn packed(number: u64, count: u64) -> u64
 fn draw(version: u8, text: &[u8], image: &mut [u8]) -> u64
     ensures { Drawn version text.now image.old result image.new }
 {
-    let answer = netlist::read(text);
-    let verdict = answer.verdict;
-    let number = netlist::number_of(verdict);
-    let line = netlist::line_of(verdict) as u64;
-    if number != 0 {
-        return packed(number, line);
+    match netlist::read(text) {
+        Ok(parts) => {
+            let written = writing::write_version(version, parts, image);
+            packed(written.number, written.length as u64)
+        }
+        Err(refusal) => packed(refusal.number(), refusal.line() as u64),
     }
-    let written = writing::write_version(version, answer.parts, image);
-    packed(written.number, written.length as u64)
 }
 
 // Writes the image of a netlist in the version that is asked for, which may be any number.

@@ -21,13 +21,14 @@ use Rattle.image.specs.Parts.{version2, in_version}
 use Rattle.image.specs.declared.parts.Parts.{Parts}
 use Rattle.netlist.specs.Draft.{with_element, with_curve, with_setting, blank_draft, said, complete, again, fault_of, with_line}
 use Rattle.netlist.specs.Text.{SaysLine, Netlist, end, line, InGrammar}
-use Rattle.netlist.specs.Answer.{Answer, answer_number, answer_line, answer_parts, judged_answer, at_end, Answered, ended, unread, repeated, beyond, passed, Answers, long, read}
+use Rattle.netlist.specs.Answer.{Answer, number_of, answer_number, answer_line, answer_parts, judged_answer, at_end, Answered, ended, unread, repeated, beyond, passed, Answers, long, read}
 use Rattle.netlist.specs.declared.draft.Draft.{Draft}
 use Rattle.netlist.specs.declared.draft.Fault.{Fault}
 use Rattle.netlist.specs.declared.draft.Fault.TheVariants.{Grammar, Value}
 use Rattle.netlist.specs.declared.said.Field.TheVariants.{Drives, Output, Rate}
 use Rattle.netlist.specs.declared.said.Line.{Line}
 use Rattle.netlist.specs.declared.said.Line.TheVariants as saying
+use Rattle.netlist.specs.declared.reader.Refusal.{Refusal}
 use Rattle.netlist.specs.declared.reader.Refusal.TheVariants as refusal
 use Rattle.netlist.proofs.LineLaws.{says_once}
 
@@ -227,6 +228,38 @@ answered_accepted (passed x s k rest) e = answered_accepted rest e
 pub accepted_judged : (text : List ℕ) {a : Answer} → Answers text a → answer_number a ≡ 0 → judged (answer_parts a) ≡ Done
 accepted_judged text (long h) e = absurd (omega (arith, e))
 accepted_judged text (read h rest) e = answered_accepted rest e
+
+-- ---- what is refused
+
+-- a refusal has a number that is not 0
+abbrev Numbered : Answer → Type 0
+Numbered (Ok parts) = Unit {0}
+Numbered (Err r) = number_of r ≡ 0 → ⊥
+
+judged_numbered : (parts : Parts) → Numbered (judged_answer parts)
+judged_numbered parts = go (eqb (numbers.number_of (judged parts)) 0) refl
+  where
+    go : (t : Bool) → eqb (numbers.number_of (judged parts)) 0 ≡ t → Numbered (cond t (Ok parts) (Err (refusal.Rules (judged parts))))
+    go true e = tt
+    go false e = eqb-false (numbers.number_of (judged parts)) 0 e
+
+answered_numbered : {text : List (List ℕ)} {n : ℕ} {d : Draft} {a : Answer} → Answered text n d a → Numbered a
+answered_numbered (ended {n = n} {d = d}) = go (complete d) refl
+  where
+    go : (t : Bool) → complete d ≡ t → Numbered (at_end n d)
+    go true q = rw (end_complete n d q) (judged_numbered d.parts)
+    go false q = rw (end_missing n d q) (λ e. omega (arith, e))
+answered_numbered (unread h) = λ e. omega (arith, e)
+answered_numbered (repeated x s k) = λ e. omega (arith, e)
+answered_numbered (beyond x s k) = λ e. omega (arith, e)
+answered_numbered (passed x s k rest) = answered_numbered rest
+
+answers_numbered : (text : List ℕ) {a : Answer} → Answers text a → Numbered a
+answers_numbered text (long h) = λ e. omega (arith, e)
+answers_numbered text (read h rest) = answered_numbered rest
+
+pub refused_numbered : (text : List ℕ) {r : Refusal} → Answers text (Err r) → number_of r ≡ 0 → ⊥
+refused_numbered text answers = answers_numbered text answers
 
 -- ---- the version
 
