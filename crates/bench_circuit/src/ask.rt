@@ -6,7 +6,7 @@ ghost use Rattle.circuit.specs.Board.{nodes_on, count_on, Ready, Ranged, Kept};
 
 use super::show;
 use super::text::Image;
-use circuit::{advance, Circuit};
+use circuit::{Circuit, advance};
 use image::Parts;
 use std::io;
 use std::io::Stdout;

@@ -75,12 +75,7 @@ pub fn circuit(out: Stdout, circuit: &Circuit) -> io::Result<()>
 }
 
 // The current of every element.
-fn flows(
-    out: Stdout,
-    circuit: &Circuit,
-    stored: &[i64; 32],
-    volts: &[i64; 16],
-) -> io::Result<()>
+fn flows(out: Stdout, circuit: &Circuit, stored: &[i64; 32], volts: &[i64; 16]) -> io::Result<()>
     requires { Evaluable circuit.now.board circuit.now.stretches stored.now volts.now }
 {
     let count = circuit.count();
@@ -94,22 +89,14 @@ fn flows(
 }
 
 // The net current of every node, with ground.
-fn nets(
-    out: Stdout,
-    circuit: &Circuit,
-    stored: &[i64; 32],
-    volts: &[i64; 16],
-) -> io::Result<()>
+fn nets(out: Stdout, circuit: &Circuit, stored: &[i64; 32], volts: &[i64; 16]) -> io::Result<()>
     requires { Evaluable circuit.now.board circuit.now.stretches stored.now volts.now }
 {
     let nodes = circuit.nodes();
     print!(out; " net")?;
     for i in 0..16usize {
         if i <= nodes {
-            print!(out;
-                " {}",
-                circuit.net_current(stored, volts, i)
-            )?;
+            print!(out; " {}", circuit.net_current(stored, volts, i))?;
         }
     }
     Ok(())
@@ -132,12 +119,7 @@ fn move_all(
 }
 
 // The same net currents, as such moves leave them.
-fn moved(
-    out: Stdout,
-    circuit: &Circuit,
-    stored: &[i64; 32],
-    volts: &[i64; 16],
-) -> io::Result<()>
+fn moved(out: Stdout, circuit: &Circuit, stored: &[i64; 32], volts: &[i64; 16]) -> io::Result<()>
     requires { Evaluable circuit.now.board circuit.now.stretches stored.now volts.now }
 {
     let mut at = [0i64; 16];

@@ -5,7 +5,7 @@ ghost use Rattle.network.specs.Network.{reading, stored_limit};
 ghost use Rattle.image.specs.Sound.{Sound};
 ghost use Rattle.solve.specs.Sample.{Playable};
 
-use circuit::{advance, board};
+use circuit::{advance, Circuit};
 use image::Parts;
 use solve::sample;
 use std::io;
@@ -68,15 +68,14 @@ fn propose(which: u64, driven: usize, d: i64, last: &[i64; 16]) -> [i64; 16] {
 
 // One sample on a copy of the stored currents: its number.
 fn attempt(
-    board: &[u64; 293],
-    stretches: &[i64; 408],
+    circuit: &Circuit,
     stored: &[i64; 32],
     volts: &mut [i64; 16],
 ) -> u64
-    requires { Playable board.now stretches.now stored.now }
+    requires { Playable circuit.now.board circuit.now.stretches stored.now }
 {
     let mut x = *stored;
-    u64::from(sample::sample(board, stretches, volts, &mut x))
+    u64::from(sample::sample(circuit, volts, &mut x))
 }
 
 // Whether nodes stand alike, up to the last that is there.
@@ -93,21 +92,20 @@ fn alike(nodes: usize, a: &[i64; 16], b: &[i64; 16]) -> bool {
 
 // Whether all proposals come to the same: one number, and one answer where there is any.
 fn agree(
-    board: &[u64; 293],
-    stretches: &[i64; 408],
+    circuit: &Circuit,
     stored: &[i64; 32],
     d: i64,
     last: &[i64; 16],
 ) -> bool
-    requires { Playable board.now stretches.now stored.now }
+    requires { Playable circuit.now.board circuit.now.stretches stored.now }
 {
-    let nodes = board::nodes(board);
-    let driven = board::driven(board);
+    let nodes = circuit.nodes();
+    let driven = circuit.driven();
     let mut first = propose(0, driven, d, last);
-    let number = attempt(board, stretches, stored, &mut first);
+    let number = attempt(circuit, stored, &mut first);
     for which in 1..7u64 {
         let mut other = propose(which, driven, d, last);
-        if attempt(board, stretches, stored, &mut other) != number {
+        if attempt(circuit, stored, &mut other) != number {
             return false;
         }
         if (number == 0) & !alike(nodes, &first, &other) {
@@ -119,17 +117,16 @@ fn agree(
 
 // A sample on the stored currents themselves, from the last answer: its number.
 fn advanced(
-    board: &[u64; 293],
-    stretches: &[i64; 408],
+    circuit: &Circuit,
     stored: &mut [i64; 32],
     d: i64,
     last: &mut [i64; 16],
 ) -> u64
-    requires { Playable board.now stretches.now stored.old }
-    ensures { Playable board.now stretches.now stored.new }
+    requires { Playable circuit.now.board circuit.now.stretches stored.old }
+    ensures { Playable circuit.now.board circuit.now.stretches stored.new }
 {
-    let mut volts = propose(0, board::driven(board), d, last);
-    let r = sample::sample(board, stretches, &mut volts, stored);
+    let mut volts = propose(0, circuit.driven(), d, last);
+    let r = sample::sample(circuit, &mut volts, stored);
     *last = volts;
     u64::from(r)
 }
@@ -203,21 +200,20 @@ fn tell(out: Stdout, number: u64, nodes: usize, volts: &[i64; 16]) -> io::Result
 // n samples.
 fn samples(
     out: Stdout,
-    board: &[u64; 293],
-    stretches: &[i64; 408],
+    circuit: &Circuit,
     stored: &mut [i64; 32],
     n: u64,
 ) -> io::Result<()>
-    requires { Playable board.now stretches.now stored.old }
+    requires { Playable circuit.now.board circuit.now.stretches stored.old }
 {
-    let nodes = board::nodes(board);
+    let nodes = circuit.nodes();
     let mut last = [0i64; 16];
     let mut sum: u64 = 1;
     for k in 0..n {
-        if !agree(board, stretches, stored, drive(k), &last) {
+        if !agree(circuit, stored, drive(k), &last) {
             return differ(out);
         }
-        let number = advanced(board, stretches, stored, drive(k), &mut last);
+        let number = advanced(circuit, stored, drive(k), &mut last);
         if number != 0 {
             return stopped(out, number);
         }
@@ -229,20 +225,19 @@ fn samples(
 // One sample of drive d: from all proposals, those beside its own answer among them.
 fn once(
     out: Stdout,
-    board: &[u64; 293],
-    stretches: &[i64; 408],
+    circuit: &Circuit,
     stored: &mut [i64; 32],
     d: i64,
 ) -> io::Result<()>
-    requires { Playable board.now stretches.now stored.old }
+    requires { Playable circuit.now.board circuit.now.stretches stored.old }
 {
     let zeros = [0i64; 16];
-    let mut last = propose(1, board::driven(board), d, &zeros);
-    attempt(board, stretches, stored, &mut last);
-    if agree(board, stretches, stored, d, &last) {
-        let number = advanced(board, stretches, stored, d, &mut last);
-        tell(out, number, board::nodes(board), &last)?;
-        show_stored(out, board::count(board), stored)
+    let mut last = propose(1, circuit.driven(), d, &zeros);
+    attempt(circuit, stored, &mut last);
+    if agree(circuit, stored, d, &last) {
+        let number = advanced(circuit, stored, d, &mut last);
+        tell(out, number, circuit.nodes(), &last)?;
+        show_stored(out, circuit.count(), stored)
     } else {
         differ(out)
     }
@@ -268,14 +263,12 @@ fn opened(out: Stdout, parts: Parts, n: u64, at: usize, x: i64, d: i64) -> io::R
     if !image::conductances_fit(parts) {
         return stopped(out, u64::from(Number::Conductance));
     }
-    let mut stretches = [0i64; 408];
-    opening::stretches(parts, &mut stretches);
-    let board = opening::board(parts, &stretches);
+    let circuit = opening::circuit(parts);
     let mut stored = charged(at, x);
     if n == 0 {
-        once(out, &board, &stretches, &mut stored, d)
+        once(out, &circuit, &mut stored, d)
     } else {
-        samples(out, &board, &stretches, &mut stored, n)
+        samples(out, &circuit, &mut stored, n)
     }
 }
 

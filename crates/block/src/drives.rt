@@ -10,9 +10,7 @@ pub fn place(drives: &[u8], driven: usize, j: usize, volts: &mut [i64; 16])
     ensures { Placed drives.now driven j driven volts.old volts.new }
 {
     let first = j * driven;
-    let mut i: usize = 0;
-    while i < driven {
+    for i in 0..driven {
         volts[1 + i] = bytes::signed_at::<4>(drives, 4 * (first + i));
-        i += 1;
     }
 }

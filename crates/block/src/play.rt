@@ -52,10 +52,8 @@ pub fn play(parts: Parts, n: u64, drives: &[u8], x: &mut [i64; 32], outputs: &mu
     requires { Sound parts × (conductances_fit parts plain ≡ true) × (length x.old ≡ 32) }
     ensures { Packed (PlaysOn parts (state_of x.old) n drives.now outputs.old) result (state_of x.new) outputs.new }
 {
-    let mut stretches = [0i64; 408];
-    opening::stretches(parts, &mut stretches);
-    let board = opening::board(parts, &stretches);
-    if !state::legal(&board, x) {
+    let circuit = opening::circuit(parts);
+    if !state::legal(&circuit, x) {
         return refused(Number::State);
     }
     if !lengths::fit(parts.driven as usize, n, drives.len(), outputs.len()) {
@@ -63,8 +61,7 @@ pub fn play(parts: Parts, n: u64, drives: &[u8], x: &mut [i64; 32], outputs: &mu
     }
     let mut volts = [0i64; 16];
     run::run(
-        &board,
-        &stretches,
+        &circuit,
         parts.output as usize,
         n as usize,
         drives,

@@ -5,7 +5,7 @@ ghost use Rattle.block.specs.Block.{StateLegal, LegalAt, Decides};
 ghost use Rattle.block.specs.Playing.{state_of};
 ghost use Rattle.block.specs.Call.{state_in, bytes_with};
 
-use circuit::{advance, board};
+use circuit::{Circuit, advance};
 use network::kind;
 use units::{bytes, signed};
 
@@ -15,10 +15,8 @@ pub fn read(state: &[u8]) -> [i64; 32]
     ensures { result ≡ (state_in state.now).currents }
 {
     let mut x = [0i64; 32];
-    let mut j: usize = 0;
-    while j < 32 {
+    for j in 0..32 {
         x[j] = bytes::signed_at::<8>(state, 8 * j);
-        j += 1;
     }
     x
 }
@@ -28,10 +26,8 @@ pub fn write(state: &mut [u8], x: &[i64; 32])
     requires { length state.old ≡ 256 }
     ensures { state.new ≡ bytes_with state.old x.now 32 }
 {
-    let mut j: usize = 0;
-    while j < 32 {
+    for j in 0..32 {
         bytes::put_signed::<8>(state, 8 * j, x[j]);
-        j += 1;
     }
 }
 
@@ -53,16 +49,14 @@ fn legal_at(kind: u64, x: i64) -> bool
 }
 
 // Whether all stored currents are legal.
-pub fn legal(board: &[u64; 293], x: &[i64; 32]) -> bool
+pub fn legal(circuit: &Circuit, x: &[i64; 32]) -> bool
     requires { length x.now ≡ 32 }
-    ensures { (stretches : List ℤ) → Decides result (StateLegal (network_on board.now stretches) (state_of x.now)) }
+    ensures { (stretches : List ℤ) → Decides result (StateLegal (network_on circuit.now.board stretches) (state_of x.now)) }
 {
-    let mut j: usize = 0;
-    while j < 32 {
-        if !legal_at(board::kind(board, j), x[j]) {
+    for j in 0..32 {
+        if !legal_at(circuit.kind(j), x[j]) {
             return false;
         }
-        j += 1;
     }
     true
 }

@@ -7,7 +7,8 @@ ghost use Rattle.circuit.specs.Board.{count_on, kind_on, Laid, Ranged, Evaluable
 
 use circuit::Circuit;
 use network::kind;
-use stretch::{curve, stretches};
+use stretch::curve::Curve;
+use stretch::stretches;
 
 // The current at the voltage v is slope × v + at_zero.
 #[derive(Clone, Copy, PartialEq)]
@@ -24,14 +25,14 @@ impl Tangent {
     };
 }
 
-// That of a curve of m breakpoints at v, its stretches from row `first` on.
-fn on_curve(stretches: &[i64; 408], first: usize, m: usize, v: i64) -> Tangent
-    requires { CurveReady stretches.now first m }
+// That of a curve at v.
+fn on_curve(curve: &Curve, v: i64) -> Tangent
+    requires { CurveReady curve.now.stretches.now curve.now.first curve.now.breakpoints }
 {
-    let row = first + curve::stretch(stretches, first, m, v);
+    let row = curve.first + curve.stretch(v);
     Tangent {
-        slope: std::num::nearest_u64_to_f64(stretches::slope(stretches, row)),
-        at_zero: std::num::nearest_i64_to_f64(stretches::at_zero(stretches, row)),
+        slope: std::num::nearest_u64_to_f64(stretches::slope(curve.stretches, row)),
+        at_zero: std::num::nearest_i64_to_f64(stretches::at_zero(curve.stretches, row)),
     }
 }
 
@@ -39,12 +40,7 @@ fn on_curve(stretches: &[i64; 408], first: usize, m: usize, v: i64) -> Tangent
 pub fn of_curve(circuit: &Circuit, volts: &[i64; 16], j: usize) -> Tangent
     requires { Laid circuit.now.board circuit.now.stretches × Ranged circuit.now.board volts.now × (j < count_on circuit.now.board) × (has_curve (kind_on circuit.now.board j) ≡ true) }
 {
-    on_curve(
-        &circuit.stretches,
-        circuit.first(j),
-        circuit.breakpoints(j),
-        circuit.across(volts, j),
-    )
+    on_curve(&circuit.curve(j), circuit.across(volts, j))
 }
 
 // That of element j, whatever it is.

@@ -3,4 +3,4 @@ use Rattle.solve.specs.Sample.{Playable}
 use Rattle.bench_solve.proofs.play.samples.Given as goal
 
 abbrev pub invariant-loop-k : goal.invariant-loop-k
-invariant-loop-k l = Playable l.board l.stretches l.stored
+invariant-loop-k l = Playable l.circuit.board l.circuit.stretches l.stored

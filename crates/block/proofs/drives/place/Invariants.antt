@@ -4,6 +4,3 @@ use Rattle.block.proofs.drives.place.Given as goal
 
 abbrev pub invariant-loop-i : goal.invariant-loop-i
 invariant-loop-i l = (l.i ≤ l.driven) × Placed l.drives l.driven l.j l.i l.initial.volts l.volts
-
-abbrev pub decreases-loop-i : goal.decreases-loop-i
-decreases-loop-i l = l.driven - l.i

@@ -6,42 +6,38 @@ use Rattle.block.proofs.play.play.Goals as goal
 pub returns-then-not-legal : goal.returns-then-not-legal
 returns-then-not-legal c =
     let a = c.args in
-    let t = c.stretches in
-    let o = c.board-board in
+    let o = c.circuit-circuit in
     let l = c.legal in
-    rw c.refused.ensures (state_no a.parts c.requires.0 c.requires.1 o.result t.new.table t.ensures o.ensures a.x.now a.n a.drives.now a.outputs.now (if_failed l.result (l.ensures t.new.table) (c.if-not-legal.true)))
+    rw c.refused.ensures (state_no a.parts c.requires.0 c.requires.1 o.result.board o.result.stretches o.ensures.stretches o.ensures.board a.x.now a.n a.drives.now a.outputs.now (if_failed l.result (l.ensures o.result.stretches) (c.if-not-legal.true)))
 
 pub returns-then-not-fit : goal.returns-then-not-fit
 returns-then-not-fit c =
     let a = c.args in
-    let t = c.stretches in
-    let o = c.board-board in
+    let o = c.circuit-circuit in
     let l = c.legal in
-    let legal = if_passed l.result (l.ensures t.new.table) (c.if-not-legal.false) in
+    let legal = if_passed l.result (l.ensures o.result.stretches) (c.if-not-legal.false) in
     let f = c.fit in
-    rw c.refused-then-not-fit.ensures (lengths_no a.parts c.requires.0 c.requires.1 o.result t.new.table t.ensures o.ensures a.x.now a.n a.drives.now a.outputs.now legal (if_failed f.result f.ensures (c.if-not-fit.true)))
+    rw c.refused-then-not-fit.ensures (lengths_no a.parts c.requires.0 c.requires.1 o.result.board o.result.stretches o.ensures.stretches o.ensures.board a.x.now a.n a.drives.now a.outputs.now legal (if_failed f.result f.ensures (c.if-not-fit.true)))
 
 pub run-requires : goal.run-requires
 run-requires c =
     let a = c.args in
-    let t = c.stretches in
-    let o = c.board-board in
+    let o = c.circuit-circuit in
     let l = c.legal in
-    let legal = if_passed l.result (l.ensures t.new.table) (c.if-not-legal.false) in
+    let legal = if_passed l.result (l.ensures o.result.stretches) (c.if-not-legal.false) in
     let f = c.fit in
     let fit = if_passed f.result f.ensures (c.if-not-fit.false) in (
-      playable_first a.parts c.requires.0 c.requires.1 o.result t.new.table t.ensures o.ensures a.x.now a.n a.drives.now a.outputs.now legal,
-      room_is a.parts c.requires.0 c.requires.1 o.result t.new.table t.ensures o.ensures a.x.now a.n a.drives.now a.outputs.now fit,
+      playable_first a.parts c.requires.0 c.requires.1 o.result.board o.result.stretches o.ensures.stretches o.ensures.board a.x.now a.n a.drives.now a.outputs.now legal,
+      room_is a.parts c.requires.0 c.requires.1 o.result.board o.result.stretches o.ensures.stretches o.ensures.board a.x.now a.n a.drives.now a.outputs.now fit,
       refl,
     )
 
 pub returns : goal.returns
 returns c =
     let a = c.args in
-    let t = c.stretches in
-    let o = c.board-board in
+    let o = c.circuit-circuit in
     let l = c.legal in
-    let legal = if_passed l.result (l.ensures t.new.table) (c.if-not-legal.false) in
+    let legal = if_passed l.result (l.ensures o.result.stretches) (c.if-not-legal.false) in
     let f = c.fit in
     let fit = if_passed f.result f.ensures (c.if-not-fit.false) in
-    ran_packed a.parts c.requires.0 c.requires.1 o.result t.new.table t.ensures o.ensures a.x.now a.n a.drives.now a.outputs.now legal fit c.run.ensures
+    ran_packed a.parts c.requires.0 c.requires.1 o.result.board o.result.stretches o.ensures.stretches o.ensures.board a.x.now a.n a.drives.now a.outputs.now legal fit c.run.ensures

@@ -6,4 +6,4 @@ pub returns : goal.returns
 returns c =
     let a = c.args in
     let b = c.begin in
-    (sampled_is a.board.now a.stretches.now a.drives.now a.j b.new.volts a.x.now b.ensures.0 c.sample.ensures.outcome, c.sample.ensures.long ∙ b.ensures.1)
+    (sampled_is a.circuit.now.board a.circuit.now.stretches a.drives.now a.j b.new.volts a.x.now b.ensures.0 c.sample.ensures.outcome, c.sample.ensures.long ∙ b.ensures.1)

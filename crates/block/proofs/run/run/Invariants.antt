@@ -8,7 +8,4 @@ use Rattle.block.specs.Playing.{state_of}
 use Rattle.block.proofs.run.run.Given as goal
 
 abbrev pub invariant-loop-j : goal.invariant-loop-j
-invariant-loop-j l = (l.j ≤ l.n) × Run (λ (j : ℕ). network_on l.board l.stretches) l.output (drive_at l.drives (driven_on l.board)) (state_of l.initial.x) l.initial.outputs l.j (state_of l.x) l.outputs × Playable l.board l.stretches l.x × (length l.volts ≡ 16)
-
-abbrev pub decreases-loop-j : goal.decreases-loop-j
-decreases-loop-j l = l.n - l.j
+invariant-loop-j l = (l.j ≤ l.n) × Run (λ (j : ℕ). network_on l.circuit.board l.circuit.stretches) l.output (drive_at l.drives (driven_on l.circuit.board)) (state_of l.initial.x) l.initial.outputs l.j (state_of l.x) l.outputs × Playable l.circuit.board l.circuit.stretches l.x × (length l.volts ≡ 16)

@@ -5,6 +5,3 @@ use Rattle.block.proofs.state.write.Given as goal
 
 abbrev pub invariant-loop-j : goal.invariant-loop-j
 invariant-loop-j l = (l.j ≤ 32) × (l.state ≡ bytes_with l.initial.state l.x l.j)
-
-abbrev pub decreases-loop-j : goal.decreases-loop-j
-decreases-loop-j l = 32 - l.j
