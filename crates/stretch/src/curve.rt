@@ -6,7 +6,6 @@ ghost use Rattle.network.specs.Network.{greatest, breakpoint_limit, Rising};
 ghost use Rattle.stretch.specs.Stretch.{rows, stretch_of, Near, slopes_in, breakpoints_in, curve_current, CurveReady};
 
 use crate::stretches;
-use units::signed;
 
 // A curve as it stands in the table: how many breakpoints it has, and the row of its first stretch.
 #[derive(Clone, Copy)]
@@ -21,7 +20,7 @@ pub struct Curve<'a> {
 fn passed(v: i64, breakpoint: i64, half: usize) -> usize
     ensures { result ≡ cond (lt_z v breakpoint) 0 half }
 {
-    if signed::less(v, breakpoint) { 0 } else { half }
+    if v < breakpoint { 0 } else { half }
 }
 
 impl Curve<'_> {
@@ -53,7 +52,7 @@ impl Curve<'_> {
     {
         let end = self.first + self.breakpoints;
         for row in from..end {
-            if signed::less(v, stretches::breakpoint(self.stretches, row)) {
+            if v < stretches::breakpoint(self.stretches, row) {
                 return row;
             }
         }
@@ -81,10 +80,7 @@ impl Curve<'_> {
         requires { CurveReady self.now.stretches.now self.now.first self.now.breakpoints × Within breakpoint_limit v × (row ≡ self.now.first + stretch_of (breakpoints_in self.now.stretches.now self.now.first self.now.breakpoints) v) }
         ensures { result ≡ curve_current self.now.stretches.now self.now.first self.now.breakpoints v }
     {
-        signed::plus(
-            signed::times(signed::whole(stretches::slope(self.stretches, row)), v),
-            stretches::at_zero(self.stretches, row),
-        )
+        stretches::slope(self.stretches, row) as i64 * v + stretches::at_zero(self.stretches, row)
     }
 
     // .. wherever its row is.
@@ -100,7 +96,7 @@ impl Curve<'_> {
         requires { (self.now.first + self.now.breakpoints < rows) × Rising (breakpoints_in self.now.stretches.now self.now.first self.now.breakpoints) × (self.now.first ≤ row) × (row ≤ self.now.first + self.now.breakpoints) }
         ensures { result ≡ true → row ≤ self.now.first + stretch_of (breakpoints_in self.now.stretches.now self.now.first self.now.breakpoints) v }
     {
-        row == self.first || !signed::less(v, stretches::breakpoint(self.stretches, row - 1))
+        row == self.first || stretches::breakpoint(self.stretches, row - 1) <= v
     }
 
     // Whether it lies in it.
@@ -110,7 +106,7 @@ impl Curve<'_> {
     {
         self.has_reached(v, row)
             && (row == self.first + self.breakpoints
-                || signed::less(v, stretches::breakpoint(self.stretches, row)))
+                || v < stretches::breakpoint(self.stretches, row))
     }
 
     // What the curve carries more at `to` than at `from`. Mostly both lie in one stretch, and only one of them
@@ -121,12 +117,9 @@ impl Curve<'_> {
     {
         let row = self.row_of(from);
         if self.lies_in(to, row) {
-            return signed::times(
-                signed::whole(stretches::slope(self.stretches, row)),
-                signed::minus(to, from),
-            );
+            return stretches::slope(self.stretches, row) as i64 * (to - from);
         }
-        signed::minus(self.current(to), self.line(from, row))
+        self.current(to) - self.line(from, row)
     }
 
     // The greatest slope.

@@ -7,21 +7,13 @@ ghost use Rattle.stretch.specs.Stretch.{rows, stretches_size, at_zero_in, slopes
 
 use crate::curve::Curve;
 use crate::stretches;
-use units::signed;
-
-// A slope of the curve's own, as wide as the table's.
-fn wide(x: u32) -> u64
-    ensures { (result ≡ x) × (result < 2 ^ 32) }
-{
-    x as u64
-}
 
 // A slope times a breakpoint.
-fn product(slope: u64, b: i64) -> i64
+fn product(slope: u32, b: i32) -> i64
     requires { (slope ≤ conductance_limit) × Within breakpoint_limit b }
     ensures { (result ≡ pos slope *ℤ b) × (nat_abs result ≤ 2 ^ 56) }
 {
-    signed::times(signed::whole(slope), b)
+    slope as i64 * b as i64
 }
 
 // How far the line of stretch i + 1 lies above that of stretch i at zero volts.
@@ -29,17 +21,17 @@ fn step(slopes: &[u32; 17], breakpoints: &[i32; 16], m: usize, i: usize) -> i64
     requires { CurveInLimits (slopes_to slopes.now m) (breakpoints_to breakpoints.now m) × (i < m) }
     ensures { Step (slopes_to slopes.now m) (breakpoints_to breakpoints.now m) i result }
 {
-    let b = signed::widened(breakpoints[i]);
-    signed::minus(product(wide(slopes[i]), b), product(wide(slopes[i + 1]), b))
+    let b = breakpoints[i];
+    product(slopes[i], b) - product(slopes[i + 1], b)
 }
 
 // A row's three numbers.
-fn put(stretches: &mut [i64; 408], row: usize, breakpoint: i64, slope: u64, current: i64)
-    requires { (row < rows) × (slope < 2 ^ 63) }
-    ensures { stretches.new ≡ overlaid stretches.old (3 * row) (breakpoint ∷ pos slope ∷ current ∷ []) }
+fn put(stretches: &mut [i64; 408], row: usize, breakpoint: i64, slope: i64, current: i64)
+    requires { row < rows }
+    ensures { stretches.new ≡ overlaid stretches.old (3 * row) (breakpoint ∷ slope ∷ current ∷ []) }
 {
     stretches[3 * row] = breakpoint;
-    stretches[3 * row + 1] = signed::whole(slope);
+    stretches[3 * row + 1] = slope;
     stretches[3 * row + 2] = current;
 }
 
@@ -59,13 +51,13 @@ fn draw(
         put(
             stretches,
             first + i,
-            signed::widened(breakpoints[i]),
-            wide(slopes[i]),
+            breakpoints[i] as i64,
+            slopes[i] as i64,
             line,
         );
-        line = signed::plus(line, step(slopes, breakpoints, m, i));
+        line += step(slopes, breakpoints, m, i);
     }
-    put(stretches, first + m, 0, wide(slopes[m]), line);
+    put(stretches, first + m, 0, slopes[m] as i64, line);
 }
 
 // Takes a current off the lines of n rows.
@@ -74,8 +66,7 @@ fn lower(stretches: &mut [i64; 408], first: usize, n: usize, current: i64)
     ensures { Lowered stretches.old first n current stretches.new }
 {
     for i in 0..n {
-        let line = signed::minus(stretches::at_zero(stretches, first + i), current);
-        stretches[3 * (first + i) + 2] = line;
+        stretches[3 * (first + i) + 2] -= current;
     }
 }
 

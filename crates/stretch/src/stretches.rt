@@ -3,8 +3,6 @@
 ghost use Rattle.std.specs.Prelude.{◌≡◌, ◌<◌};
 ghost use Rattle.stretch.specs.Stretch.{rows, breakpoint_in, slope_in, at_zero_in};
 
-use units::signed;
-
 // The numbers of a row.
 pub fn breakpoint(stretches: &[i64; 408], row: usize) -> i64
     requires { row < rows }
@@ -17,7 +15,7 @@ pub fn slope(stretches: &[i64; 408], row: usize) -> u64
     requires { row < rows }
     ensures { result ≡ slope_in stretches.now row }
 {
-    signed::size(stretches[3 * row + 1])
+    stretches[3 * row + 1].unsigned_abs()
 }
 
 pub fn at_zero(stretches: &[i64; 408], row: usize) -> i64

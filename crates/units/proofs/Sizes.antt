@@ -1,5 +1,5 @@
 -- How large a signed number, a sum or a quotient can be. Assumes nothing.
-use Rattle.std.proofs.Common.{◌≡◌, ℕ, zero, suc, ◌+◌, ◌-◌, ◌*◌, ◌/◌, ◌<◌, ◌≤◌, ℤ, pos, negsuc, ◌+ℤ◌, ◌-ℤ◌, ◌*ℤ◌, neg_ℤ, nat_abs, refl, ap, ⊎_elim, le_refl, suc-mul, mul-add, add-one, arith}
+use Rattle.std.proofs.Common.{◌≡◌, ℕ, zero, suc, ◌+◌, ◌-◌, ◌*◌, ◌/◌, ◌^◌, ◌<◌, ◌≤◌, ℤ, pos, negsuc, ◌+ℤ◌, ◌-ℤ◌, ◌*ℤ◌, neg_ℤ, nat_abs, SFits, w64, refl, ap, ⊎_elim, le_refl, suc-mul, mul-add, add-one, arith}
 use native.Mathlib.Nat.{mul-div-le, lt-mul-div-succ}
 use Rattle.units.specs.Integer.{up, dn, sum, total, rounded_up}
 use Rattle.units.proofs.Integers.{signs, add_law, sub_law, abs_law, one_sided, decide_n}
@@ -122,3 +122,8 @@ rounded_up_law n s p =
     let high = lt-mul-div-succ m p in
     let e = mul-add s (m / s) 1 in
     (omega arith, omega arith)
+
+-- what is small enough to be an i64
+pub fits_signed : (z : ℤ) → nat_abs z < 2 ^ 63 → SFits w64 z
+fits_signed (pos n) h = record { sfits = omega arith }
+fits_signed (negsuc n) h = record { sfits = omega arith }

@@ -1,17 +1,15 @@
-use mathlib.Core.Path.{◌≡◌, ◌∙◌}
-use Prim.Native.Nat.{◌+◌}
-use native.Mathlib.Omega.{arith}
-use mir.Syntax.{w64}
-use mir.Val.{to_z, of_z}
-use borrow.Author.Rules.{rules}
+use Rattle.std.proofs.Common.{◌≡◌, ◌+◌, refl, ap, nat_abs, ◌-ℤ◌, arith, rules, w64, to_z, of_z, to_z-of_z, SFits}
+use Rattle.units.proofs.Sizes.{abs_sub, fits_signed}
 use Rattle.stretch.specs.Stretch.{at_zero_in}
 use Rattle.stretch.proofs.DrawingLaws.{lowered_more}
 use Rattle.stretch.proofs.drawing.lower.Goals as goal
 
 pub loop-i-preserved : goal.loop-i-preserved
 loop-i-preserved c =
-    let at-line : to_z w64 (of_z w64 c.at_zero.result) ≡ at_zero_in c.loop-i.stretches (c.args.first + c.loop-i.i) = let e : to_z w64 (of_z w64 c.at_zero.result) ≡ c.at_zero.result = search rules in e ∙ c.at_zero.ensures in
     let l = c.loop-i in
-    let e : to_z w64 (of_z w64 c.minus-line.result) ≡ c.minus-line.result = search rules in
-    let is = e ∙ (rw at-line at c.minus-line.ensures) in
-    lowered_more c.args.stretches.now c.args.first (to_z w64 (of_z w64 c.args.current)) l.i l.stretches (to_z w64 (of_z w64 c.minus-line.result)) (omega (arith, c.requires.0, c.requires.1, c.loop-i-test.true)) is l.invariant
+    let current = c.args.current in
+    let line = at_zero_in l.stretches (c.args.first + l.i) in
+    let e : to_z w64 (of_z w64 line) ≡ line = search rules in
+    let same : line ≡ at_zero_in c.args.stretches.now (c.args.first + l.i) = l.invariant.elsewhere _ (λ k h e. omega arith) in
+    let fits : SFits w64 (line -ℤ current) = fits_signed _ (omega (arith, abs_sub line current, ap nat_abs same, c.requires.2 l.i c.loop-i-test.true)) in
+    rw (e, to_z-of_z c.ranges.current, to_z-of_z fits) (lowered_more c.args.stretches.now c.args.first current l.i l.stretches (line -ℤ current) (omega (arith, c.requires.0, c.requires.1, c.loop-i-test.true)) refl (rw (to_z-of_z c.ranges.current) at l.invariant))

@@ -1,4 +1,4 @@
-use Rattle.std.proofs.Common.{◌≡◌, ◌-◌, ◌∙◌, sym, arith, rules, w64, to_z, of_z, to_z-of_z}
+use Rattle.std.proofs.Common.{◌≡◌, ◌-◌, ◌∙◌, arith, rules, w64, to_z, of_z, to_z-of_z}
 use Rattle.stretch.specs.Stretch.{breakpoints_in}
 use Rattle.stretch.proofs.CurveLaws.{breakpoints_in_lem, row_begins}
 use Rattle.stretch.proofs.StretchLaws.{stretch_there}
@@ -25,5 +25,5 @@ returns-else-row-self c = λ h.
     let e : to_z w64 (of_z w64 c.breakpoint.result) ≡ c.breakpoint.result = search rules in
     let look = e ∙ c.breakpoint.ensures ∙ row_begins s.stretches.now s.first s.breakpoints row (omega arith) (omega arith) in
     let reached = c.has_reached.ensures c.if-has_reached.true in
-    let stops = look_stops bs c.args.v c.requires.1 (row - s.first) (rw (look, to_z-of_z c.ranges.v) at (sym c.less.ensures ∙ h)) in
+    let stops = look_stops bs c.args.v c.requires.1 (row - s.first) (rw (look, to_z-of_z c.ranges.v) at h) in
     omega (arith, rw (to_z-of_z c.ranges.v) at reached, stops)
