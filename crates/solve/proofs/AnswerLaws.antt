@@ -21,19 +21,18 @@ use Rattle.circuit.specs.Board.{nodes_on, driven_on, network_on, Evaluable}
 use Rattle.circuit.specs.Nets.{Netted}
 use Rattle.circuit.specs.Places.{Taken}
 use Rattle.std.proofs.Common.{Result, Ok, Err}
-use Rattle.std.specs.Result.{IsErr}
 use Rattle.solve.specs.declared.settle.NoneInRange.{NoneInRange}
-use Rattle.solve.specs.Search.{Searching, Changed, Down, Nowhere}
+use Rattle.solve.specs.Search.{Searching, Changed, Down, Nowhere, Came}
 use Rattle.solve.specs.Climb.{Topped}
 use Rattle.solve.specs.Answer.{drives_at, seat_of, Seated, Start, Solvable, Solved}
 
 -- ---- where it begins
 
--- over zeros the drives taken over and the free nodes seated
-pub seated_all : {board : List ℕ} {top : Bool} {given drives after : List ℤ} (before : List ℤ) → reading before 0 ≡ pos 0 → Taken given 1 (driven_on board + 1) before drives → Changed (λ (j : ℕ) (u : ℤ). u ≡ seat_of top (reading given j)) board drives after (suc (nodes_on board)) → Seated board top given after
-seated_all before ground t h = record {
+-- ground's place stored, the drives taken over and the free nodes seated
+pub seated_all : {board : List ℕ} {top : Bool} {given drives after : List ℤ} (before : List ℤ) → length before ≡ 16 → Taken given 1 (driven_on board + 1) (set before 0 (pos 0)) drives → Changed (λ (j : ℕ) (u : ℤ). u ≡ seat_of top (reading given j)) board drives after (suc (nodes_on board)) → Seated board top given after
+seated_all before long t h = record {
   long = h.long;
-  ground = h.same 0 (omega arith) ∙ t.elsewhere 0 (inl (omega arith)) ∙ ground;
+  ground = h.same 0 (omega arith) ∙ t.elsewhere 0 (inl (omega arith)) ∙ get_or-set_same before 0 (pos 0) (pos 0) (omega (arith, long));
   driven = λ j l. h.same (suc j) l ∙ t.taken (suc j) (omega arith) (omega arith);
   free = λ j a b. h.free j a (omega arith);
 }
@@ -53,14 +52,20 @@ module _ {board : List ℕ} {top : Bool} {given after : List ℤ} (seated : Seat
   pub seated_evaluable : {stretches stored : List ℤ} → Solvable board stretches stored given → Evaluable board stretches stored after
   seated_evaluable {stretches} s = record { ready = s.ready; kept = s.kept; ranged = legal_in_range (network_on board stretches) (drives_at given) (reading after) (seated_legal stretches) s.drives }
 
-  pub seated_searching : {stretches stored volts nets : List ℤ} → Solvable board stretches stored given → volts ≡ after → Netted board stretches stored volts nets → Searching board stretches stored volts nets
-  seated_searching {stretches} {stored} {volts} {nets} s same netted =
-      subst (λ (l : List ℤ). Searching board stretches stored l nets) (sym same)
-      (record { evaluable = seated_evaluable s; long = seated.long; ground = seated.ground; netted = rw same at netted })
+  pub seated_searching : {stretches stored nets : List ℤ} → Solvable board stretches stored given → Netted board stretches stored after nets → Searching board stretches stored after nets
+  seated_searching s netted = record { evaluable = seated_evaluable s; long = seated.long; ground = seated.ground; netted = netted }
+
+  -- seated once more, every node is where it was
+  seated_once : {again : List ℤ} → Seated board top given again → (stretches : List ℤ) (j : ℕ) → j ≤ nodes_on board → reading after j ≡ reading again j
+  seated_once {again} other stretches = by_node (network_on board stretches) (λ (j : ℕ). reading after j ≡ reading again j) fixed (λ j f. seated.free j f.0 f.1 ∙ sym (other.free j f.0 f.1))
+    where
+      fixed : (j : ℕ) → j ≤ driven_on board → reading after j ≡ reading again j
+      fixed zero l = seated.ground ∙ sym other.ground
+      fixed (suc j) l = seated.driven j l ∙ sym (other.driven j l)
 
 -- ---- how it ends
 
-module _ (board : List ℕ) (stretches stored given : List ℤ) where
+module _ (board : List ℕ) (stretches stored given after : List ℤ) where
   abbrev N : Network
   N = network_on board stretches
 
@@ -69,25 +74,20 @@ module _ (board : List ℕ) (stretches stored given : List ℤ) where
     above : Above (network_on board stretches) (reading stored) (drives_at given) (reading top)
     above = top_start N (reading stored) (drives_at given) (reading top) (seated_legal seated stretches).drives (λ i f. seated.free i f.0 f.1)
 
-    pub top_found : (after : List ℤ) → Down board stretches stored top after → Low (network_on board stretches) (reading stored) (reading after) → Answer (network_on board stretches) (reading stored) (drives_at given) (reading after)
-    top_found after down low = settled_answer N (reading stored) (drives_at given) (reading top) (reading after) above (record { settling = down.settling (drives_at given) (reading top) (settling_start N (reading stored) (drives_at given) (reading top) (seated_legal seated stretches)); low = low })
-
-    pub top_nothing : Nowhere board stretches stored top → Empty (network_on board stretches) (reading stored) (drives_at given)
-    top_nothing none = none_empty N (reading stored) (drives_at given) (reading top) above (none (drives_at given) (reading top) (settling_start N (reading stored) (drives_at given) (reading top) (seated_legal seated stretches)))
+    pub top_solved : (r : Result Unit NoneInRange) → Came board stretches stored top after r → Solved board stretches stored given after r
+    top_solved (Ok _) h = settled_answer N (reading stored) (drives_at given) (reading top) (reading after) above (record { settling = h.0.settling (drives_at given) (reading top) (settling_start N (reading stored) (drives_at given) (reading top) (seated_legal seated stretches)); low = h.1 })
+    top_solved (Err _) h = none_empty N (reading stored) (drives_at given) (reading top) above (h (drives_at given) (reading top) (settling_start N (reading stored) (drives_at given) (reading top) (seated_legal seated stretches)))
 
   -- from a proposal: settled and climbed
   module _ {begun : List ℤ} (seated : Seated board false given begun) where
-    pub climbed : (rest after : List ℤ) → Down board stretches stored begun rest → Topped board stretches stored rest after → Answer (network_on board stretches) (reading stored) (drives_at given) (reading after)
-    climbed rest after down topped = topped (drives_at given) (down.settling (drives_at given) (reading begun) (settling_start N (reading stored) (drives_at given) (reading begun) (seated_legal seated stretches))).legal
+    pub climbed : {rest : List ℤ} → Down board stretches stored begun rest → Topped board stretches stored rest after → Answer (network_on board stretches) (reading stored) (drives_at given) (reading after)
+    climbed down topped = topped (drives_at given) (down.settling (drives_at given) (reading begun) (settling_start N (reading stored) (drives_at given) (reading begun) (seated_legal seated stretches))).legal
 
-    -- nothing below it, and it is a start
-    pub start_nothing : Solvable board stretches stored given → Start board stretches stored begun → Nowhere board stretches stored begun → Empty (network_on board stretches) (reading stored) (drives_at given)
-    start_nothing s st none =
-        let legal = seated_legal seated stretches in
-        none_empty N (reading stored) (drives_at given) (reading begun)
-        (start N (reading stored) (drives_at given) (reading begun) s.ready.laid.limits.wired s.ready.laid.limits.leaks legal.drives st)
-        (none (drives_at given) (reading begun) (settling_start N (reading stored) (drives_at given) (reading begun) legal))
-
-pub solved_empty : (board : List ℕ) (stretches stored given : List ℤ) (r : Result (List ℤ) NoneInRange) → IsErr r → Empty (network_on board stretches) (reading stored) (drives_at given) → Solved board stretches stored given r
-solved_empty board stretches stored given (Ok _) e none = absurd (false≢true e)
-solved_empty board stretches stored given (Err _) e none = none
+    -- nothing below it, and once more seated it is a start
+    pub start_nothing : {again : List ℤ} → Solvable board stretches stored given → Seated board false given again → Start board stretches stored again → Nowhere board stretches stored begun → Empty (network_on board stretches) (reading stored) (drives_at given)
+    start_nothing {again} s other st none = none_empty N (reading stored) (drives_at given) (reading begun) over (none (drives_at given) (reading begun) (settling_start N (reading stored) (drives_at given) (reading begun) (seated_legal seated stretches)))
+      where
+        over : Above (network_on board stretches) (reading stored) (drives_at given) (reading begun)
+        over w legal low j l =
+            rw (seated_once seated other stretches j l)
+            (start N (reading stored) (drives_at given) (reading again) s.ready.laid.limits.wired s.ready.laid.limits.leaks (seated_legal other stretches).drives st w legal low j l)

@@ -35,7 +35,7 @@ module _ (board : List ℕ) (stretches volts stored : List ℤ) where
       pub answer_ranged : Ranged board v
       answer_ranged = legal_in_range (network_on board stretches) (drives_at volts) (reading v) answer.legal legal
 
-      pub top_refused : {w : List ℤ} → TopTested board v true → Sampled (network_on board stretches) (drives_at volts) stored stored w Rail
+      pub top_refused : TopTested board v true → Sampled (network_on board stretches) (drives_at volts) stored stored v Rail
       top_refused t =
           let free : Free (network_on board stretches) t.0 = (t.1, t.2) in
           let top : reading v t.0 ≡ pos voltage_limit = omega (signs, t.3, answer.legal.range t.0 free, abs_law (reading v t.0), pos_law voltage_limit) in
@@ -45,7 +45,7 @@ module _ (board : List ℕ) (stretches volts stored : List ℤ) where
         pub sample_accepted : AllKept board stretches v stored true → StoredTo board stretches v stored (network_on board stretches).count y → Sampled (network_on board stretches) (drives_at volts) stored y v Done
         sample_accepted kept new = passed (record { drives = legal; answer = answer; below = λ i f. below i f.0 f.1; stored = new.new; kept = λ j l. rw (new.new j l) (kept j l) }) new.long new.old
 
-        pub stored_refused : {w : List ℤ} → AllKept board stretches v stored false → y ≡ stored → Sampled (network_on board stretches) (drives_at volts) stored y w Stored
+        pub stored_refused : AllKept board stretches v stored false → y ≡ stored → Sampled (network_on board stretches) (drives_at volts) stored y v Stored
         stored_refused beyond same = refused storedRefused (record {
           drives = legal;
           voltages = reading v;

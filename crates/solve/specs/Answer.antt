@@ -36,6 +36,6 @@ pub record Solvable (board : List ℕ) (stretches stored given : List ℤ) : Typ
   pub drives : DrivesLegal (network_on board stretches) (drives_at given)
 
 -- what it gives: the answer at the nodes, or that there is none
-abbrev pub Solved : (board : List ℕ) (stretches stored given : List ℤ) → Result (List ℤ) NoneInRange → Type 0
-Solved board stretches stored given (Ok found) = Answer (network_on board stretches) (reading stored) (drives_at given) (reading found)
-Solved board stretches stored given (Err _) = Empty (network_on board stretches) (reading stored) (drives_at given)
+abbrev pub Solved : (board : List ℕ) (stretches stored given after : List ℤ) → Result Unit NoneInRange → Type 0
+Solved board stretches stored given after (Ok _) = Answer (network_on board stretches) (reading stored) (drives_at given) (reading after)
+Solved board stretches stored given after (Err _) = Empty (network_on board stretches) (reading stored) (drives_at given)

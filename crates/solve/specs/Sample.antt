@@ -41,10 +41,10 @@ pub data Sampled (N : Network) (d : ℕ → ℤ) (x y v : List ℤ) : Number →
       → y ≡ x
       → Sampled N d x y v (answer_of r)
 
--- .. whose drives are legal: the voltages after it, or the number of its refusal
-abbrev pub Voiced : (N : Network) (d : ℕ → ℤ) (x y : List ℤ) → Result (List ℤ) Number → Type 0
-Voiced N d x y (Ok found) = Sampled N d x y found Done
-Voiced N d x y (Err number) = (0 < number_of number) × ((v : List ℤ) → Sampled N d x y v number)
+-- .. whose drives are legal: accepted, or refused with a number that is not 0
+abbrev pub Voiced : (N : Network) (d : ℕ → ℤ) (x y v : List ℤ) → Result Unit Number → Type 0
+Voiced N d x y v (Ok _) = Sampled N d x y v Done
+Voiced N d x y v (Err number) = (0 < number_of number) × Sampled N d x y v number
 
 -- what a sample leaves in every place, u being the voltages before it: those past the nodes are as they were, and after a refusal all are
 pub record Leaves (N : Network) (x y u v : List ℤ) (number : Number) : Type 0 where

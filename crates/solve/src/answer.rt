@@ -25,18 +25,17 @@ fn seat_at(top: bool, v: i64) -> i64
 
 // Ground at zero, the driven nodes at their drives and every free node so. Place by place, as a whole
 // array that is copied just after one of its places was stored has to wait for it.
-fn seated(circuit: &Circuit, top: bool, given: &[i64; 16]) -> [i64; 16]
-    requires { (nodes_on circuit.now.board ≤ node_limit) × (driven_on circuit.now.board ≤ nodes_on circuit.now.board) }
-    ensures { Seated circuit.now.board top given.now result }
+fn seat(circuit: &Circuit, top: bool, given: &[i64; 16], volts: &mut [i64; 16])
+    requires { (nodes_on circuit.now.board ≤ node_limit) × (driven_on circuit.now.board ≤ nodes_on circuit.now.board) × (length volts.old ≡ 16) }
+    ensures { Seated circuit.now.board top given.now volts.new }
 {
     let nodes = circuit.nodes();
     let first = circuit.driven() + 1;
-    let mut volts = [0i64; 16];
-    places::take(given, 1, first, &mut volts);
+    volts[0] = 0;
+    places::take(given, 1, first, volts);
     for i in first..nodes + 1 {
         volts[i] = seat_at(top, given[i]);
     }
-    volts
 }
 
 // Whether no low assignment passes these voltages, by document 01's test of a start: net current at or
@@ -59,34 +58,41 @@ fn from_top(
     circuit: &Circuit,
     stored: &[i64; 32],
     given: &[i64; 16],
-) -> Result<[i64; 16], NoneInRange>
-    requires { Solvable circuit.now.board circuit.now.stretches stored.now given.now }
-    ensures { Solved circuit.now.board circuit.now.stretches stored.now given.now result }
+    at: &mut Point,
+) -> Result<(), NoneInRange>
+    requires { Solvable circuit.now.board circuit.now.stretches stored.now given.now × (length at.old.volts ≡ 16) }
+    ensures { Solved circuit.now.board circuit.now.stretches stored.now given.now at.new.volts result }
 {
-    let top = seated(circuit, true, given);
-    let mut at = Point::at(circuit, stored, top);
-    settle::settle(circuit, stored, &mut at)?;
-    Ok(at.volts)
+    seat(circuit, true, given, &mut at.volts);
+    at.nets = circuit.net_currents(stored, &at.volts);
+    settle::settle(circuit, stored, at)
 }
 
-// The answer, or that there is none: from the proposal, seated, then settled, certified, climbed. Where there is
-// nothing below it, that decides only if it is a start; else the top of the range does.
+// The answer at the nodes of `at`, or that there is none; what stood there before does not count. From the
+// proposal, seated, then settled, certified, climbed. Where there is nothing below it, that decides only if it
+// is a start, for which it is seated once more; else the top of the range does.
 pub fn solve(
     circuit: &Circuit,
     stored: &[i64; 32],
     given: &[i64; 16],
-) -> Result<[i64; 16], NoneInRange>
-    requires { Solvable circuit.now.board circuit.now.stretches stored.now given.now }
-    ensures { Solved circuit.now.board circuit.now.stretches stored.now given.now result }
+    at: &mut Point,
+) -> Result<(), NoneInRange>
+    requires { Solvable circuit.now.board circuit.now.stretches stored.now given.now × (length at.old.volts ≡ 16) }
+    ensures { Solved circuit.now.board circuit.now.stretches stored.now given.now at.new.volts result }
 {
-    let proposal = seated(circuit, false, given);
-    let mut at = Point::at(circuit, stored, proposal);
-    match settle::settle(circuit, stored, &mut at) {
+    seat(circuit, false, given, &mut at.volts);
+    at.nets = circuit.net_currents(stored, &at.volts);
+    match settle::settle(circuit, stored, at) {
         Ok(()) => {
-            climb::climb(circuit, stored, &mut at);
-            Ok(at.volts)
+            climb::climb(circuit, stored, at);
+            Ok(())
         }
-        Err(none) if is_start(circuit, stored, &proposal) => Err(none),
-        Err(_) => from_top(circuit, stored, given),
+        Err(none) => {
+            seat(circuit, false, given, &mut at.volts);
+            if is_start(circuit, stored, &at.volts) {
+                return Err(none);
+            }
+            from_top(circuit, stored, given, at)
+        }
     }
 }

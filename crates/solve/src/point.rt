@@ -2,8 +2,7 @@
 ghost use Rattle.std.specs.Prelude.{◌≡◌, set};
 ghost use Rattle.units.specs.Voltage.{InRange};
 ghost use Rattle.network.specs.Network.{Free};
-ghost use Rattle.circuit.specs.Board.{network_on, Evaluable};
-ghost use Rattle.circuit.specs.Nets.{Netted};
+ghost use Rattle.circuit.specs.Board.{network_on};
 ghost use Rattle.solve.specs.Search.{Searching};
 
 use circuit::Circuit;
@@ -15,15 +14,6 @@ pub struct Point {
 }
 
 impl Point {
-    // These voltages and their net currents.
-    pub fn at(circuit: &Circuit, stored: &[i64; 32], volts: [i64; 16]) -> Point
-        requires { Evaluable circuit.now.board circuit.now.stretches stored.now volts }
-        ensures { (result.volts ≡ volts) × Netted circuit.now.board circuit.now.stretches stored.now result.volts result.nets }
-    {
-        let nets = circuit.net_currents(stored, &volts);
-        Point { volts, nets }
-    }
-
     // Node i moved to v: its net currents stay those of its voltages. Where it stands there already, none of
     // its elements is looked at.
     pub fn put(&mut self, circuit: &Circuit, stored: &[i64; 32], i: usize, v: i64)

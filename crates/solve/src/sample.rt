@@ -8,6 +8,7 @@ ghost use Rattle.solve.specs.Answer.{drives_at};
 ghost use Rattle.solve.specs.Sample.{DrivesTested, TopTested, Playable, Voiced, Leaves};
 
 use crate::answer;
+use crate::point::Point;
 use crate::settle::NoneInRange;
 use circuit::{Circuit, places};
 use units::number::Number;
@@ -55,17 +56,22 @@ impl From<NoneInRange> for Number {
     }
 }
 
-// A sample whose drives are legal: its voltages, or the number of its refusal.
-fn voiced(circuit: &Circuit, given: &[i64; 16], stored: &mut [i64; 32]) -> Result<[i64; 16], Number>
-    requires { Playable circuit.now.board circuit.now.stretches stored.old × DrivesTested circuit.now.board given.now true }
-    ensures { Voiced (network_on circuit.now.board circuit.now.stretches) (drives_at given.now) stored.old stored.new result }
+// A sample whose drives are legal: its voltages are left in `at`, or it is refused with a number.
+fn voiced(
+    circuit: &Circuit,
+    given: &[i64; 16],
+    at: &mut Point,
+    stored: &mut [i64; 32],
+) -> Result<(), Number>
+    requires { Playable circuit.now.board circuit.now.stretches stored.old × DrivesTested circuit.now.board given.now true × (length at.old.volts ≡ 16) }
+    ensures { Voiced (network_on circuit.now.board circuit.now.stretches) (drives_at given.now) stored.old stored.new at.new.volts result }
 {
-    let found = answer::solve(circuit, stored, given)?;
-    if at_top(circuit, &found) {
+    answer::solve(circuit, stored, given, at)?;
+    if at_top(circuit, &at.volts) {
         return Err(Number::Rail);
     }
-    match circuit.advance(&found, stored) {
-        Ok(()) => Ok(found),
+    match circuit.advance(&at.volts, stored) {
+        Ok(()) => Ok(()),
         Err(_) => Err(Number::Stored),
     }
 }
@@ -89,11 +95,15 @@ pub fn sample(circuit: &Circuit, volts: &mut [i64; 16], stored: &mut [i64; 32]) 
     if !drives_legal(circuit, volts) {
         return Number::Drive;
     }
-    match voiced(circuit, volts, stored) {
-        Err(number) => number,
-        Ok(found) => {
-            hand_over(circuit, &found, volts);
+    let mut at = Point {
+        volts: [0i64; 16],
+        nets: [0i64; 16],
+    };
+    match voiced(circuit, volts, &mut at, stored) {
+        Ok(()) => {
+            hand_over(circuit, &at.volts, volts);
             Number::Done
         }
+        Err(number) => number,
     }
 }

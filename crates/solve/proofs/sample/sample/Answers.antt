@@ -12,4 +12,4 @@ pub returns-in-Ok : goal.returns-in-Ok
 returns-in-Ok c = heard c.in-Ok.ensures c.requires.ready.laid.limits.wired refl c.hand_over.ensures
 
 pub returns-in-Err : goal.returns-in-Err
-returns-in-Err c = let k = c.in-Err.ensures in unheard (k.1 c.args.volts.now) (λ e. omega (arith, e, k.0))
+returns-in-Err c = let k = c.in-Err.ensures in unheard k.1 (λ e. omega (arith, e, k.0))

@@ -1,8 +1,0 @@
-use mathlib.Core.Path.{refl}
-use Rattle.solve.proofs.PlaceLaws.{changed_all}
-use Rattle.solve.proofs.AnswerLaws.{seated_all}
-use native.Mathlib.Omega.{arith}
-use Rattle.solve.proofs.answer.seated.Goals as goal
-
-pub returns : goal.returns
-returns c = seated_all _ refl (rw c.driven-first.ensures at c.take.ensures) (changed_all c.loop-i.invariant (omega (arith, c.nodes-nodes.ensures)))
