@@ -4,7 +4,6 @@ use Rattle.network.specs.Kind.{resistor_kind}
 use Rattle.ohms.proofs.Promise.{value_once}
 use Rattle.netlist.specs.Line.{value_place, element_line, ResistorLine}
 use Rattle.netlist.proofs.LineLaws.{right_said, element_whole}
-use Rattle.netlist.proofs.line.resistor.Goals.{in_default-via-in-Some+else-found-s, in_default-via-in_default}
 use Rattle.netlist.proofs.line.resistor.Goals as goal
 
 pub returns-in-Some : goal.returns-in-Some
@@ -23,7 +22,10 @@ returns-in-Some c =
 pub returns-in_default : goal.returns-in_default
 returns-in_default c =
     let s = c.args.s.now in
-    λ y says. elim c.in_default.branch [
-      | in_default-via-in-Some+else-found-s w ↦ w.if-found-s.false (value_once s (value_place s) _ (length s) _ says.worth (rw c.value_place.ensures at w.in-Some.ensures) says.value).0
-      | in_default-via-in_default w ↦ (rw c.value_place.ensures at w.in_default.ensures) (length s) says.worth says.value
-    ]
+    let v = rw c.value_place.ensures at c.in-Some.ensures in
+    λ y says. c.if-found-s.false (value_once s (value_place s) _ (length s) _ says.worth v says.value).0
+
+pub returns-in_default-2 : goal.returns-in_default-2
+returns-in_default-2 c =
+    let none = rw c.value_place.ensures at c.in_default.ensures in
+    λ y says. none (length c.args.s.now) says.worth says.value
