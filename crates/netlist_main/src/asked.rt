@@ -5,23 +5,17 @@ ghost use Rattle.netlist_main.specs.Asked.{asked_of};
 use console::words;
 use console::words::Run;
 
-#[derive(Clone, Copy)]
-pub enum Asked {
-    Nothing,
-    Version(u8),
-}
-
 const MINUS: u8 = 45;
 
 // A minus and a number are a version. One above 255 is kept as 255, as numbers of a netlist are, and is
 // refused alike.
-pub fn version(argument: &[u8]) -> Asked
+pub fn version(argument: &[u8]) -> Option<u8>
     ensures { result ≡ asked_of argument.now }
 {
     let n = argument.len();
     let end = words::past(Run::Digits, argument, 1);
     if (words::byte_at(argument, 0) == MINUS) & (1 < n) & (end == n) {
-        return Asked::Version(netlist::byte(argument, 1));
+        return Some(netlist::byte(argument, 1));
     }
-    Asked::Nothing
+    None
 }

@@ -11,7 +11,7 @@ mod asked;
 mod file;
 mod refusal;
 
-ghost use Rattle.std.specs.Prelude.{◌≡◌, ◌≤◌, length, take};
+ghost use Rattle.std.specs.Prelude.{◌≡◌, ◌≤◌, length, take, IfOk};
 ghost use Rattle.units.specs.declared.number.Number.TheVariants.{Done};
 ghost use Rattle.io.specs.Counts.{IsPrefixLen};
 ghost use Rattle.image.specs.Format.{longest};
@@ -19,12 +19,12 @@ ghost use Rattle.image.specs.Judged.{judged};
 ghost use Rattle.image.specs.Sound.{Sound};
 ghost use Rattle.writing.specs.Image.{image_of};
 
-use asked::Asked;
 use image::Parts;
-use netlist::Verdict;
+use netlist::Refusal;
 use std::io;
 use std::io::Stderr;
 use std::rt::{Env, Files};
+use units::number::Number;
 
 // A proved loop has to end. No program is given so many arguments.
 const ENOUGH: usize = 4611686018427387904;
@@ -34,10 +34,9 @@ fn write_curves(out: &impl Print, parts: Parts) -> io::Result<()>
     requires { Sound parts }
 {
     let curves = parts.curves;
-    let n = parts.curve_count as usize;
-    for k in 0..n {
+    for curve in &curves[..parts.curve_count as usize] {
         let mut text = outside::buffer();
-        let end = report::put_curve(&mut text, curves[k]);
+        let end = report::put_curve(&mut text, *curve);
         out.write_all(&text[..end])?;
     }
     Ok(())
@@ -57,9 +56,9 @@ fn write_parts(out: &impl Print, parts: Parts) -> io::Result<()>
 }
 
 // Why there are none.
-fn write_refusal(out: &impl Print, verdict: Verdict) -> io::Result<()> {
+fn write_refusal(out: &impl Print, refusal: Refusal) -> io::Result<()> {
     let mut text = outside::buffer();
-    let end = refusal::put(&mut text, verdict);
+    let end = refusal::put(&mut text, refusal);
     out.write_all(&text[..end])
 }
 
@@ -93,8 +92,19 @@ fn write_image(rt: &(impl Files + Env), err: Stderr, parts: Parts, i: usize)
     }
 }
 
-// The report on a text in a version, and its image into the file that argument i names. What the reader
-// lets pass may be refused in that version, which is judged with the parts.
+// The parts of a text in a version, which is judged with them: what the reader lets pass may be refused in
+// that version.
+fn parts_in(version: u8, text: &[u8]) -> Result<Parts, Refusal>
+    ensures { IfOk result (λ parts. judged parts ≡ Done) }
+{
+    let parts = image::in_version(version, netlist::read(text)?);
+    match image::judge(parts) {
+        Number::Done => Ok(parts),
+        number => Err(Refusal::Rules(number)),
+    }
+}
+
+// The report on a text in a version, and its image into the file that argument i names.
 fn report_text(
     rt: &(impl Files + Env + Print),
     err: Stderr,
@@ -102,20 +112,15 @@ fn report_text(
     bytes: &[u8],
     i: usize,
 ) -> io::Result<()> {
-    let answer = netlist::read(bytes);
-    let read = answer.verdict;
-    if netlist::number_of(read) != 0 {
-        return write_refusal(rt, read);
+    match parts_in(version, bytes) {
+        Ok(parts) => {
+            // a report that can't be written takes no image away
+            let told = write_parts(rt, parts);
+            write_image(rt, err, parts, i);
+            told
+        }
+        Err(refusal) => write_refusal(rt, refusal),
     }
-    let parts = image::in_version(version, answer.parts);
-    let verdict = Verdict::Judged(image::judge(parts));
-    if netlist::number_of(verdict) != 0 {
-        return write_refusal(rt, verdict);
-    }
-    // a report that can't be written takes no image away
-    let told = write_parts(rt, parts);
-    write_image(rt, err, parts, i);
-    told
 }
 
 // The report on the text of this name, whose image goes into the file that argument i names.
@@ -145,10 +150,8 @@ fn main(rt: HostRuntime) -> io::Result<()> {
         };
         i += 1;
         match asked::version(&name[..named]) {
-            Asked::Version(other) => {
-                version = other;
-            }
-            Asked::Nothing => {
+            Some(other) => version = other,
+            None => {
                 let told = report_on(&rt, err, version, &name[..named], i);
                 outcome = outcome.and(told);
                 // the image's argument, if there is one

@@ -4,7 +4,7 @@ ghost use Rattle.console.specs.Text.{Adds};
 ghost use Rattle.netlist_main.specs.Refusal.{refused_at, refusal};
 
 use console::text;
-use netlist::Verdict;
+use netlist::Refusal;
 
 // `refused R line N`, at the start of `text`.
 fn put_at(text: &mut [u8], number: u64, line: usize) -> usize
@@ -19,15 +19,14 @@ fn put_at(text: &mut [u8], number: u64, line: usize) -> usize
 }
 
 // The line of a refusal, at the start of `text`. Where it ends.
-pub fn put(text: &mut [u8], verdict: Verdict) -> usize
+pub fn put(text: &mut [u8], why: Refusal) -> usize
     requires { 4096 ≤ length text.old }
-    ensures { Adds (refusal verdict) 4096 0 text.old result text.new }
+    ensures { Adds (refusal why) 4096 0 text.old result text.new }
 {
-    let number = netlist::number_of(verdict);
-    let line = netlist::line_of(verdict);
-    match verdict {
-        Verdict::Judged(n) => text::put_refused(text, number),
-        Verdict::Grammar(l) => put_at(text, number, line),
-        Verdict::Value(l) => put_at(text, number, line),
+    let number = why.number();
+    match why {
+        Refusal::Rules(_) => text::put_refused(text, number),
+        Refusal::Grammar(line) => put_at(text, number, line),
+        Refusal::Value(line) => put_at(text, number, line),
     }
 }
