@@ -11,8 +11,9 @@ use Rattle.units.specs.Table.{padded, every}
 use Rattle.units.proofs.Tables.{padded_none, padded_rest}
 use Rattle.units.proofs.Every.{every_none, every_more, every_fails}
 use Rattle.network.specs.Network.{conductance_limit}
-use Rattle.measured.specs.Measured.{current_limit, width_after, reached, slope_at, slope_small, curve_of, slopes_fit, refused, drawn}
-use Rattle.measured.specs.declared.drawing.Ending.TheVariants.{Drawn, Slope}
+use Rattle.measured.specs.Measured.{current_limit, width_after, reached, slope_at, slope_small, curve_of, slopes_fit, drawn}
+use Rattle.std.specs.Prelude.{Ok, Err}
+use Rattle.measured.specs.declared.drawing.Refusal.TheVariants.{Slope}
 use Rattle.measured.proofs.PairLaws.{PairsSay, reached_more, reached_most, amp_small}
 
 module _ (volts amps : List ℤ) where
@@ -35,11 +36,11 @@ module _ (volts amps : List ℤ) where
   reached_none = refl
 
   -- all slopes fit, or one doesn't
-  pub all_drawn : every (slope_small volts amps) (length volts) ≡ true → record { ending = Drawn; curve = curve_of volts amps } ≡ drawn volts amps
+  pub all_drawn : every (slope_small volts amps) (length volts) ≡ true → Ok (curve_of volts amps) ≡ drawn volts amps
   unfolding slopes_fit
   all_drawn e = rw e
 
-  pub one_steep : (j : ℕ) → j < length volts → conductance_limit < slope_at volts amps j → refused Slope ≡ drawn volts amps
+  pub one_steep : (j : ℕ) → j < length volts → conductance_limit < slope_at volts amps j → Err Slope ≡ drawn volts amps
   unfolding slopes_fit
   one_steep j h l = rw (every_fails (slope_small volts amps) (length volts) j h (lt-leb (slope_at volts amps j) conductance_limit l))
 

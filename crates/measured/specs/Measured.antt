@@ -1,14 +1,12 @@
 -- From measured pairs to a curve: document 02, request 1. A list of pairs is two lists, voltages `volts` in microvolts and currents `amps` in
 -- femtoamperes, and pair j is number j of both. Its limits of a voltage and of a slope are those that network has for a curve. Assumes nothing.
-use Rattle.std.specs.Prelude.{Bool, ◌&&◌, cond, List, ℕ, zero, suc, ◌+◌, ◌*◌, ◌-◌, ◌/◌, ◌^◌, eqb, leb, ℤ, pos, nat_abs, length}
+use Rattle.std.specs.Prelude.{Bool, ◌&&◌, cond, List, ℕ, zero, suc, ◌+◌, ◌*◌, ◌-◌, ◌/◌, ◌^◌, eqb, leb, ℤ, pos, nat_abs, length, Result, Ok, Err}
 use Rattle.std.specs.Int.Signed.{le_z, lt_z}
 use Rattle.units.specs.Table.{padded, between, every}
 use Rattle.network.specs.Network.{reading, conductance_limit, breakpoint_limit, breakpoint_count_limit}
-use Rattle.image.specs.Parts.{no_curve}
 use Rattle.image.specs.declared.parts.Curve.{Curve}
-use Rattle.measured.specs.declared.drawing.Ending.{Ending}
-use Rattle.measured.specs.declared.drawing.Ending.TheVariants.{Drawn, Pairs, Slope}
-use Rattle.measured.specs.declared.drawing.Measured.{Measured}
+use Rattle.measured.specs.declared.drawing.Refusal.{Refusal}
+use Rattle.measured.specs.declared.drawing.Refusal.TheVariants.{Pairs, Slope}
 
 -- how many pairs a list may have, and how large a current may be
 abbrev pub fewest_pairs : ℕ
@@ -87,19 +85,14 @@ slopes_fit volts amps = every (slope_small volts amps) (length volts)
 
 -- ---- the answer
 
--- document 02's number of an ending, 0 for a curve
-abbrev pub number_of : Ending → ℕ
-number_of Drawn = 0
+-- document 02's number of a refusal
+abbrev pub number_of : Refusal → ℕ
 number_of Pairs = 12
 number_of Slope = 13
 
--- beside a refusal there are zeros
-abbrev pub refused : Ending → Measured
-refused ending = record { ending = ending; curve = no_curve }
-
 -- the curve of a list, 13 if one of its slopes is too large, and before that 12 if its pairs break a rule
-abbrev pub drawn : List ℤ → List ℤ → Measured
-drawn volts amps = cond (slopes_fit volts amps) (record { ending = Drawn; curve = curve_of volts amps }) (refused Slope)
+abbrev pub drawn : List ℤ → List ℤ → Result Curve Refusal
+drawn volts amps = cond (slopes_fit volts amps) (Ok (curve_of volts amps)) (Err Slope)
 
-unfoldable pub measured : List ℤ → List ℤ → Measured
-measured volts amps = cond (pairs_fit volts amps) (drawn volts amps) (refused Pairs)
+unfoldable pub measured : List ℤ → List ℤ → Result Curve Refusal
+measured volts amps = cond (pairs_fit volts amps) (drawn volts amps) (Err Pairs)

@@ -1,57 +1,40 @@
-// The curve of a measured list: its slopes stretch by stretch, its breakpoints, and how it ended.
+// The curve of a measured list: its slopes stretch by stretch, and its breakpoints.
 ghost use Rattle.std.specs.Prelude.{◌≡◌, true, ℕ, suc, ◌≤◌, ◌<◌, pos, length};
 ghost use Rattle.units.specs.Table.{padded};
 ghost use Rattle.network.specs.Network.{reading, breakpoint_limit, breakpoint_count_limit};
-ghost use Rattle.measured.specs.Measured.{number_of, size_at, width_after, largest, pairs_fit, refused, drawn, measured};
+ghost use Rattle.measured.specs.Measured.{number_of, size_at, width_after, largest, pairs_fit, drawn, measured};
 
 use super::pairs;
 use image::Curve;
-use units::signed;
 
-// Whether a list became a curve, or what stands against it: a rule of the pairs, or a slope that no
-// curve may have.
+// What stands against a list: a rule of the pairs, or a slope that no curve may have.
 #[derive(Clone, Copy)]
-pub enum Ending {
-    Drawn,
+pub enum Refusal {
     Pairs,
     Slope,
 }
 
-// The ending, and the curve: zeros beside a refusal.
-#[derive(Clone, Copy)]
-pub struct Measured {
-    pub ending: Ending,
-    pub curve: Curve,
+// Document 02's number.
+impl From<Refusal> for u64 {
+    ghost from_gives = { λ refusal n. n ≡ number_of refusal };
+
+    fn from(refusal: Refusal) -> u64 {
+        match refusal {
+            Refusal::Pairs => 12,
+            Refusal::Slope => 13,
+        }
+    }
 }
 
 // The greatest slope, in nanosiemens.
 const SLOPE: u64 = 1073741824;
-
-// Document 02's number, 0 for a curve.
-pub fn number(ending: Ending) -> u64
-    ensures { result ≡ number_of ending }
-{
-    match ending {
-        Ending::Drawn => 0,
-        Ending::Pairs => 12,
-        Ending::Slope => 13,
-    }
-}
-
-// This ending with a curve of zeros.
-pub fn refused(ending: Ending) -> Measured
-    ensures { result ≡ refused ending }
-{
-    let curve = image::no_curve();
-    Measured { ending, curve }
-}
 
 // Microvolts from pair j to the next.
 fn width_after(voltages: &[i64], j: usize) -> u64
     requires { (suc j < length voltages.now) × (size_at voltages.now j ≤ size_at voltages.now (suc j)) }
     ensures { result ≡ width_after voltages.now j }
 {
-    signed::size(voltages[j + 1]) - signed::size(voltages[j])
+    pairs::size_at(voltages, j + 1) - pairs::size_at(voltages, j)
 }
 
 // The largest slope that goes no further than from one current to the other.
@@ -68,51 +51,42 @@ fn breakpoints(voltages: &[i64], n: usize) -> [i32; 16]
     ensures { result ≡ padded (pos 0) breakpoint_count_limit (reading voltages.now) n }
 {
     let mut breakpoints = [0; 16];
-    let mut j: usize = 0;
-    while j < n {
+    for j in 0..n {
         breakpoints[j] = voltages[j] as i32;
-        j += 1;
     }
     breakpoints
 }
 
 // The curve of a list that keeps the rules of its pairs.
-fn draw(voltages: &[i64], currents: &[i64]) -> Measured
+fn draw(voltages: &[i64], currents: &[i64]) -> Result<Curve, Refusal>
     requires { pairs_fit voltages.now currents.now ≡ true }
     ensures { result ≡ drawn voltages.now currents.now }
 {
     let last = voltages.len() - 1;
     let mut slopes = [0u32; 17];
     let mut reached: u64 = 0;
-    let mut j: usize = 0;
-    while j < last {
+    for j in 0..last {
         let width = width_after(voltages, j);
-        let slope = largest(reached, signed::size(currents[j + 1]), width);
+        let slope = largest(reached, pairs::size_at(currents, j + 1), width);
         if SLOPE < slope {
-            return refused(Ending::Slope);
+            return Err(Refusal::Slope);
         }
         slopes[j + 1] = slope as u32;
         reached += slope * width;
-        j += 1;
     }
-    let breakpoints = breakpoints(voltages, last);
-    let curve = Curve {
+    Ok(Curve {
         count: last as u8,
         slopes,
-        breakpoints,
-    };
-    Measured {
-        ending: Ending::Drawn,
-        curve,
-    }
+        breakpoints: breakpoints(voltages, last),
+    })
 }
 
 // Measured voltages, in microvolts, and currents, in femtoamperes, to the curve through or below them.
-pub fn curve(voltages: &[i64], currents: &[i64]) -> Measured
+pub fn curve(voltages: &[i64], currents: &[i64]) -> Result<Curve, Refusal>
     ensures { result ≡ measured voltages.now currents.now }
 {
     if !pairs::fit(voltages, currents) {
-        return refused(Ending::Pairs);
+        return Err(Refusal::Pairs);
     }
     draw(voltages, currents)
 }

@@ -5,5 +5,5 @@
 mod drawing;
 mod pairs;
 
-pub use drawing::{Ending, Measured, curve, number, refused};
+pub use drawing::{Refusal, curve};
 pub use pairs::MOST;

@@ -2,7 +2,7 @@
 // width, so that none is too large or too small to be refused.
 ghost use Rattle.std.specs.Prelude.{◌≡◌, suc, ◌+◌, ◌<◌, length};
 ghost use Rattle.units.specs.Table.{every};
-ghost use Rattle.measured.specs.Measured.{follows, count_fits, pairs_fit};
+ghost use Rattle.measured.specs.Measured.{follows, size_at, count_fits, pairs_fit};
 
 use units::signed;
 
@@ -15,6 +15,14 @@ pub const MOST: usize = 17;
 const VOLTAGE: i64 = 67108864;
 
 const CURRENT: i64 = 72057594037927936;
+
+// How large a number of a list is.
+pub fn size_at(list: &[i64], j: usize) -> u64
+    requires { j < length list.now }
+    ensures { result ≡ size_at list.now j }
+{
+    signed::size(list[j])
+}
 
 // Whether the pair after pair j may follow it.
 fn follows(voltages: &[i64], currents: &[i64], j: usize) -> bool
@@ -32,12 +40,10 @@ fn all_follow(voltages: &[i64], currents: &[i64], n: usize) -> bool
     requires { (n < length voltages.now) × (n < length currents.now) }
     ensures { result ≡ every (follows voltages.now currents.now) n }
 {
-    let mut j: usize = 0;
-    while j < n {
+    for j in 0..n {
         if !follows(voltages, currents, j) {
             return false;
         }
-        j += 1;
     }
     true
 }
@@ -58,7 +64,7 @@ pub fn fit(voltages: &[i64], currents: &[i64]) -> bool
         return false;
     }
     let others = voltages.len() - 1;
-    (signed::size(voltages[0]) == 0)
-        & (signed::size(currents[0]) == 0)
+    (size_at(voltages, 0) == 0)
+        & (size_at(currents, 0) == 0)
         & all_follow(voltages, currents, others)
 }

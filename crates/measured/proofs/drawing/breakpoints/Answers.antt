@@ -11,7 +11,7 @@ use Rattle.network.specs.Network.{reading, breakpoint_limit}
 use Rattle.measured.proofs.drawing.breakpoints.Goals as goal
 
 pub loop-j-init : goal.loop-j-init
-loop-j-init c = (search rules, padded_none (pos 0) 16 _)
+loop-j-init c = padded_none (pos 0) 16 _
 
 -- a voltage within a breakpoint's limit has 32 bits
 narrow : (c : goal.After-breakpoints-1) → SFits w32 (to_z w64 (of_z w64 (reading c.args.voltages.now c.loop-j.j)))
@@ -25,4 +25,4 @@ loop-j-preserved c =
     let l = c.loop-j in
     let a = c.args in
     let e : to_z w64 (of_z w64 (reading a.voltages.now l.j)) ≡ reading a.voltages.now l.j = search rules in
-    (search rules, rw l.invariant.1 (padded_more (pos 0) 16 _ l.j _ (omega arith) (to_z-of_z (narrow c) ∙ e)))
+    rw l.invariant (padded_more (pos 0) 16 _ l.j _ (omega arith) (to_z-of_z (narrow c) ∙ e))

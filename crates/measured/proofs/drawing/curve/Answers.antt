@@ -6,7 +6,7 @@ pub returns-then-not-fit : goal.returns-then-not-fit
 unfolding measured
 returns-then-not-fit c =
     let no = sym c.fit.ensures ∙ c.if-not-fit.true in
-    c.refused.ensures ∙ rw no
+    rw no
 
 pub returns : goal.returns
 unfolding measured
