@@ -1,13 +1,13 @@
 -- A measured list as text: what its lines say, and the curve that comes of it. Assumes nothing.
-use Rattle.std.specs.Prelude.{cond, List, [], ◌∷◌, ℕ, eqb, leb, ℤ, length}
+use Rattle.std.specs.Prelude.{cond, List, [], ◌∷◌, ℕ, eqb, leb, ℤ, Result, Ok, Err, length}
 use Rattle.console.specs.Number.{spelt}
 use Rattle.console.specs.Words.{first, rest, lines}
-use Rattle.console.specs.declared.number.Spelt.{Spelt}
-use Rattle.console.specs.declared.number.Spelt.TheVariants.{Nothing, Beyond, Value}
+use Rattle.console.specs.declared.number.NumberError.{NumberError}
 use Rattle.console.specs.declared.words.Run.TheVariants.{Blanks, Word, Said}
-use Rattle.measured.specs.Measured.{refused, measured}
-use Rattle.measured.specs.declared.drawing.Ending.TheVariants.{Pairs}
-use Rattle.measured.specs.declared.drawing.Measured.{Measured}
+use Rattle.image.specs.declared.parts.Curve.{Curve}
+use Rattle.measured.specs.Measured.{measured}
+use Rattle.measured.specs.declared.drawing.Refusal.{Refusal}
+use Rattle.measured.specs.declared.drawing.Refusal.TheVariants.{Pairs}
 use Rattle.curve.specs.declared.line.Line.{Line}
 use Rattle.curve.specs.declared.line.Line.TheVariants.{Empty, Pair, Other}
 
@@ -18,12 +18,10 @@ abbrev pub next_word : List ℕ → List ℕ
 next_word text = rest Blanks (rest Word text)
 
 -- two words are a pair if both are numbers below 2^63 in size: a larger one would break a rule of the pairs in any case
-abbrev pub pair_of : Spelt → Spelt → Line
-pair_of (Value v) (Value i) = Pair v i
-pair_of (Value v) Nothing = Other
-pair_of (Value v) Beyond = Other
-pair_of Nothing i = Other
-pair_of Beyond i = Other
+abbrev pub pair_of : Result ℤ NumberError → Result ℤ NumberError → Line
+pair_of (Ok v) (Ok i) = Pair v i
+pair_of (Ok v) (Err e) = Other
+pair_of (Err e) i = Other
 
 -- a line says nothing if it has no word before its comment, and a pair if it has two
 unfoldable pub line_of : List ℕ → Line
@@ -51,13 +49,13 @@ told_by (line ∷ lines) = joined (line_of line) (told_by lines)
 
 -- ---- the curve
 
-abbrev pub answer : Told → Measured
+abbrev pub answer : Told → Result Curve Refusal
 answer (told volts amps) = measured volts amps
-answer broken = refused Pairs
+answer broken = Err Pairs
 
 -- the longest text that is read, in bytes
 abbrev pub longest_text : ℕ
 longest_text = 65535
 
-unfoldable pub curve_of : List ℕ → Measured
-curve_of text = cond (leb (length text) longest_text) (answer (told_by (lines text))) (refused Pairs)
+unfoldable pub curve_of : List ℕ → Result Curve Refusal
+curve_of text = cond (leb (length text) longest_text) (answer (told_by (lines text))) (Err Pairs)

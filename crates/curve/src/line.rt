@@ -2,7 +2,7 @@
 ghost use Rattle.std.specs.Prelude.{◌≡◌};
 ghost use Rattle.curve.specs.Text.{next_word, pair_of, line_of};
 
-use console::number::Spelt;
+use console::number::NumberError;
 use console::words::Run;
 use console::{number, words};
 
@@ -23,17 +23,12 @@ fn next_word<'a>(text: &'a [u8]) -> &'a [u8]
 }
 
 // Two words as a pair. A number of 2^63 or more in size is one that no rule lets pass.
-fn pair(voltage: Spelt, current: Spelt) -> Line
+fn pair(voltage: Result<i64, NumberError>, current: Result<i64, NumberError>) -> Line
     ensures { result ≡ pair_of voltage current }
 {
-    match voltage {
-        Spelt::Value(v) => match current {
-            Spelt::Value(i) => Line::Pair(v, i),
-            Spelt::Nothing => Line::Other,
-            Spelt::Beyond => Line::Other,
-        },
-        Spelt::Nothing => Line::Other,
-        Spelt::Beyond => Line::Other,
+    match (voltage, current) {
+        (Ok(voltage), Ok(current)) => Line::Pair(voltage, current),
+        _ => Line::Other,
     }
 }
 
@@ -43,12 +38,12 @@ pub fn read(line: &[u8]) -> Line
 {
     let said = words::first(Run::Said, line);
     let from_first = words::rest(Run::Blanks, said);
-    if from_first.len() == 0 {
+    if from_first.is_empty() {
         return Line::Empty;
     }
     let from_second = next_word(from_first);
     let after = next_word(from_second);
-    if after.len() != 0 {
+    if !after.is_empty() {
         return Line::Other;
     }
     let voltage = number::number(words::first(Run::Word, from_first));

@@ -1,29 +1,20 @@
-use native.Mathlib.Omega.{arith}
+use Rattle.std.proofs.Common.{sym, ◌∙◌, arith}
+use Rattle.console.proofs.TextLaws.{adds_within}
 use Rattle.curve.specs.Answer.{answer_to}
 use Rattle.curve.proofs.KeptLaws.{curve_few}
 use Rattle.curve.proofs.answer.put.Goals as goal
 
 pub put_curve-requires : goal.put_curve-requires
-put_curve-requires c =
-    (rw c.curve-made.ensures (curve_few c.args.list.now), c.requires)
+put_curve-requires c = (curve_few c.args.list.now c.in-Ok.curve (sym c.curve.ensures ∙ c.in-Ok.is), c.requires)
 
-pub returns-in-Drawn : goal.returns-in-Drawn
+pub returns-in-Ok : goal.returns-in-Ok
 unfolding answer_to
-returns-in-Drawn c =
-    let made = c.curve-made in
+returns-in-Ok c =
     let p = c.put_curve in
-    (rw (← made.ensures, c.in-Drawn.is) p.ensures, omega (arith, p.ensures.short, p.ensures.moved, p.auto.text, c.requires))
+    (rw (← c.curve.ensures, c.in-Ok.is) p.ensures, omega (arith, p.ensures.short, p.ensures.moved, p.auto.text, c.requires))
 
-pub returns-in-Pairs : goal.returns-in-Pairs
+pub returns-in-Err : goal.returns-in-Err
 unfolding answer_to
-returns-in-Pairs c =
-    let made = c.curve-made in
+returns-in-Err c =
     let p = c.put_refused in
-    (rw (← made.ensures, c.in-Pairs.is) p.ensures, omega (arith, p.ensures.short, p.ensures.moved, p.auto.text, c.requires))
-
-pub returns-in-Slope : goal.returns-in-Slope
-unfolding answer_to
-returns-in-Slope c =
-    let made = c.curve-made in
-    let p = c.put_refused-in-Slope in
-    (rw (← made.ensures, c.in-Slope.is) p.ensures, omega (arith, p.ensures.short, p.ensures.moved, p.auto.text, c.requires))
+    (rw (← c.curve.ensures, c.in-Err.is) (adds_within (omega arith) (rw c.from.ensures at p.ensures)), omega (arith, p.ensures.short, p.ensures.moved, p.auto.text, c.requires))

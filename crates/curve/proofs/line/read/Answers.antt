@@ -1,26 +1,26 @@
-use mathlib.Core.Path.{◌≡◌, ◌∙◌, ap}
-use borrow.Author.Tests.{eq-eqb, ne_eqb}
+use mathlib.Core.Path.{◌≡◌, sym, ◌∙◌, ap}
 use Rattle.console.specs.Words.{first, rest}
 use Rattle.console.specs.declared.words.Run.TheVariants.{Blanks, Word, Said}
 use Rattle.console.specs.Number.{spelt}
 use Rattle.curve.specs.Text.{next_word, line_of}
 use Rattle.curve.proofs.line.read.Goals as goal
 
-pub returns-then-from_first-eq0 : goal.returns-then-from_first-eq0
+pub returns-then-is_empty : goal.returns-then-is_empty
 unfolding line_of
-returns-then-from_first-eq0 c =
+returns-then-is_empty c =
     let one : c.rest-from_first.result.now ≡ rest Blanks (first Said c.args.line.now) = c.rest-from_first.ensures ∙ ap (rest Blanks) c.first-said.ensures in
-    rw (eq-eqb _ 0 (rw one at c.if-from_first-eq0.true))
+    let none = sym c.is_empty.ensures ∙ c.if-is_empty.true in
+    rw (rw one at none)
 
-pub returns-then-after-ne0 : goal.returns-then-after-ne0
+pub returns-then-not-is_empty : goal.returns-then-not-is_empty
 unfolding line_of
-returns-then-after-ne0 c =
+returns-then-not-is_empty c =
     let one : c.rest-from_first.result.now ≡ rest Blanks (first Said c.args.line.now) = c.rest-from_first.ensures ∙ ap (rest Blanks) c.first-said.ensures in
     let two : c.next_word-from_second.result.now ≡ next_word (rest Blanks (first Said c.args.line.now)) = c.next_word-from_second.ensures ∙ ap next_word one in
     let three : c.next_word-after.result.now ≡ next_word (next_word (rest Blanks (first Said c.args.line.now))) = c.next_word-after.ensures ∙ ap next_word two in
-    let some = ne_eqb _ 0 (rw one at c.if-from_first-eq0.false) in
-    let more = ne_eqb _ 0 (rw three at c.if-after-ne0.true) in
-    rw (some, more)
+    let some = sym c.is_empty.ensures ∙ c.if-is_empty.false in
+    let more = sym c.is_empty-2.ensures ∙ c.if-not-is_empty.true in
+    rw (rw one at some, rw three at more)
 
 pub returns : goal.returns
 unfolding line_of
@@ -28,8 +28,8 @@ returns c =
     let one : c.rest-from_first.result.now ≡ rest Blanks (first Said c.args.line.now) = c.rest-from_first.ensures ∙ ap (rest Blanks) c.first-said.ensures in
     let two : c.next_word-from_second.result.now ≡ next_word (rest Blanks (first Said c.args.line.now)) = c.next_word-from_second.ensures ∙ ap next_word one in
     let three : c.next_word-after.result.now ≡ next_word (next_word (rest Blanks (first Said c.args.line.now))) = c.next_word-after.ensures ∙ ap next_word two in
-    let some = ne_eqb _ 0 (rw one at c.if-from_first-eq0.false) in
-    let none = eq-eqb _ 0 (rw three at c.if-after-ne0.false) in
+    let some = sym c.is_empty.ensures ∙ c.if-is_empty.false in
+    let none = sym c.is_empty-2.ensures ∙ c.if-not-is_empty.false in
     let first_word = c.number-voltage.ensures ∙ ap spelt (c.first.ensures ∙ ap (first Word) one) in
     let second_word = c.number-current.ensures ∙ ap spelt (c.first-2.ensures ∙ ap (first Word) two) in
-    c.pair.ensures ∙ rw (some, none, first_word, second_word)
+    c.pair.ensures ∙ rw (rw one at some, rw three at none, first_word, second_word)

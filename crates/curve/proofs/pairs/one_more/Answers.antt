@@ -1,15 +1,12 @@
-use mathlib.Core.Path.{refl}
-use native.Mathlib.Omega.{arith}
-use mir.Facts.{to_z-of_z}
+use Rattle.std.proofs.Common.{refl, arith, to_z-of_z}
 use Rattle.curve.proofs.KeptLaws.{reads_pair, reads_much}
 use Rattle.curve.proofs.pairs.one_more.Goals as goal
 
 pub returns-then-n-ge-MOST : goal.returns-then-n-ge-MOST
-returns-then-n-ge-MOST c =
-    reads_much c.args.kept c.none.result c.args.voltage c.args.current c.requires c.if-n-ge-MOST.true c.none.ensures.0 c.none.ensures.2
+returns-then-n-ge-MOST c = reads_much c.args.kept c.args.voltage c.args.current c.requires c.if-n-ge-MOST.true
 
 pub returns : goal.returns
 returns c =
     let volt = to_z-of_z c.ranges.voltage in
     let amp = to_z-of_z c.ranges.current in
-    reads_pair c.args.kept _ c.args.voltage c.args.current c.requires (omega arith) refl refl (rw volt) (rw amp)
+    reads_pair c.args.kept c.args.voltage c.args.current c.requires _ (omega arith) refl (rw volt) (rw amp)
