@@ -10,18 +10,16 @@ use borrow.Author.Tests.{eqb-true}
 use Rattle.units.specs.Number.{number_of}
 use Rattle.units.specs.Table.{every}
 use Rattle.units.proofs.Every.{both}
-use Rattle.image.specs.Parts.{no_parts, header_fits, curve_sizes_fit, curves_fit, elements_fit}
+use Rattle.image.specs.Parts.{header_fits, curve_sizes_fit, curves_fit, elements_fit}
 use Rattle.image.specs.Curve.{padding_fits}
 use Rattle.image.specs.Format.{element_size, trailer_size, trailer_of, header_of, curve_start, curve_bytes_at, parts_of, length_fits, trailer_fits, sizes_fit, curve_bytes_fit, Opening, opened, refused, rule, opening_of}
-use Rattle.image.specs.Opened.{Read}
-use Rattle.image.specs.Asked.{CurveThere}
+use Rattle.image.specs.Asked.{CurveThere, Headed, Furnished, Whole}
 use Rattle.image.specs.Sound.{Sound}
 use Rattle.image.proofs.Curves.{splits_says, splits_is}
 use Rattle.image.proofs.Says.{header_says}
 use Rattle.image.proofs.Sound.{sound}
 use Rattle.units.specs.declared.number.Number.{Number}
 use Rattle.units.specs.declared.number.Number.TheVariants as number
-use Rattle.image.specs.declared.reader.Opened.{Opened}
 use Rattle.image.specs.declared.parts.Parts.{Parts}
 
 -- ---- what the rules with a layout say
@@ -56,39 +54,27 @@ sizes_say image held e =
       curves = splits_says image (element_size * h.element_count) h.curve_count end (splits_is image few end ∙ a.1) (omega arith);
     }
 
--- ---- from the rules to the opening
-
+-- what the rules that hold say for the steps of the reader that follow
 module _ (image : List ℕ) where
-  pub refused_1 : length_fits (length image) ≡ false → opening_of image ≡ refused number.Length
-  unfolding opening_of
-  refused_1 a = rw a
+  pub headed : (header : Parts) → trailer_size ≤ length image → header ≡ header_of image → trailer_fits image ≡ true → Headed image header
+  unfolding parts_of
+  headed header long is held =
+      let says = header_says (parts_of image) (trailer_says image held) in
+      record { is = is; long = long; few_elements = rw is says.few_elements; few_curves = rw is says.few_curves }
 
-  pub refused_2 : length_fits (length image) ≡ true → trailer_fits image ≡ false → opening_of image ≡ refused number.Trailer
-  unfolding opening_of
-  refused_2 a b = rw (a, b)
+  pub furnished : (header : Parts) → header ≡ header_of image → trailer_fits image ≡ true → sizes_fit image ≡ true → Furnished image header
+  unfolding parts_of
+  furnished header is held sized =
+      let says = header_says (parts_of image) (trailer_says image held) in
+      let sizes = sizes_say image held sized in
+      record { is = is; few = rw is says.few_elements; room = rw is sizes.room; few_curves = rw is says.few_curves; curves = rw is sizes.curves }
 
-  pub refused_3 : length_fits (length image) ≡ true → trailer_fits image ≡ true → sizes_fit image ≡ false → opening_of image ≡ refused number.Sizes
-  unfolding opening_of
-  refused_3 a b c = rw (a, b, c)
-
-  pub refused_4 : length_fits (length image) ≡ true → trailer_fits image ≡ true → sizes_fit image ≡ true → curve_bytes_fit image ≡ false → opening_of image ≡ refused number.Curve
-  unfolding opening_of
-  refused_4 a b c d = rw (a, b, c, d)
-
-  pub refused_5 : length_fits (length image) ≡ true → trailer_fits image ≡ true → sizes_fit image ≡ true → curve_bytes_fit image ≡ true → elements_fit (parts_of image) ≡ false → opening_of image ≡ refused number.Element
-  unfolding opening_of
-  refused_5 a b c d e = rw (a, b, c, d, e)
-
-  pub opened_0 : length_fits (length image) ≡ true → trailer_fits image ≡ true → sizes_fit image ≡ true → curve_bytes_fit image ≡ true → elements_fit (parts_of image) ≡ true → opening_of image ≡ opened (parts_of image)
-  unfolding opening_of
-  opened_0 a b c d e = rw (a, b, c, d, e)
-
-  -- what the reader hands back
-  pub read_refused : (r : Opened) (n : Number) → opening_of image ≡ refused n → r.number ≡ n → r.parts ≡ no_parts → Read image r
-  read_refused r n e a p = record { number = rw (a, e); parts = rw (e, p) }
-
-  pub read_opened : (r : Opened) → opening_of image ≡ opened (parts_of image) → r.number ≡ number.Done → r.parts ≡ parts_of image → Read image r
-  read_opened r e a p = record { number = rw (a, e); parts = rw (e, p) }
+  pub whole : (parts : Parts) → parts ≡ parts_of image → trailer_fits image ≡ true → sizes_fit image ≡ true → Whole image parts
+  unfolding parts_of
+  whole parts is held sized =
+      let says = header_says (parts_of image) (trailer_says image held) in
+      let sizes = sizes_say image held sized in
+      record { is = is; few_curves = rw is says.few_curves; sizes = rw is sizes.sizes; curves = sizes.curves }
 
 -- ---- and back: what an opened image says
 

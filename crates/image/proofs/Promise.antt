@@ -1,52 +1,44 @@
--- The reader's promise admits one outcome, and what it says of an opened image. Assumes nothing.
-use mathlib.Core.Path.{◌≡◌, refl, sym, ◌∙◌, ap}
-use mathlib.Core.Bool.{Bool, true, false}
+-- The reader's promise admits one outcome, and what it says of an opened image, and of one that is refused. Assumes nothing.
+use mathlib.Core.Path.{◌≡◌, sym, ◌∙◌, ap}
 use mathlib.Core.List.{List}
 use Prim.Native.Nat.{ℕ, ◌≤◌}
 use native.Mathlib.Omega.{arith}
-use lib.ListN.{length}
-use Rattle.image.specs.Parts.{elements_fit}
-use Rattle.image.specs.Format.{parts_of, length_fits, trailer_fits, sizes_fit, curve_bytes_fit, Opening, opened, rule, opening_of}
-use Rattle.image.specs.Opened.{number_in, parts_in, Read}
-use Rattle.image.specs.Sound.{Sound}
-use Rattle.image.proofs.Opening.{opened_sound}
+use Rattle.std.specs.Prelude.{Result, Ok, Err}
 use Rattle.units.specs.Number.{number_of}
 use Rattle.units.specs.declared.number.Number.{Number}
-use Rattle.units.specs.declared.number.Number.TheVariants.{Done, Length, Trailer, Sizes, Curve, Element}
-use Rattle.image.specs.declared.reader.Opened.{Opened}
-
--- a rule with a number of its own that gave 0 was passed
-rule_done : (n : Number) (b : Bool) (rest : Opening) → 1 ≤ number_of n → number_in (rule n b rest) ≡ Done → (rule n b rest ≡ rest) × (number_in rest ≡ Done)
-rule_done n true rest some e = (refl, e)
-rule_done n false rest some e = absurd (omega (arith, ap number_of e))
-
--- an image whose number is 0 is opened
-number_opened : (image : List ℕ) → number_in (opening_of image) ≡ Done → opening_of image ≡ opened (parts_of image)
-unfolding opening_of
-number_opened image e =
-    let o5 = rule Element (elements_fit (parts_of image)) (opened (parts_of image)) in
-    let o4 = rule Curve (curve_bytes_fit image) o5 in
-    let o3 = rule Sizes (sizes_fit image) o4 in
-    let o2 = rule Trailer (trailer_fits image) o3 in
-    let a = rule_done Length (length_fits (length image)) o2 (omega arith) e in
-    let b = rule_done Trailer (trailer_fits image) o3 (omega arith) a.1 in
-    let c = rule_done Sizes (sizes_fit image) o4 (omega arith) b.1 in
-    let d = rule_done Curve (curve_bytes_fit image) o5 (omega arith) c.1 in
-    let f = rule_done Element (elements_fit (parts_of image)) (opened (parts_of image)) (omega arith) d.1 in
-    a.0 ∙ b.0 ∙ c.0 ∙ d.0 ∙ f.0
+use Rattle.units.specs.declared.number.Number.TheVariants.{Done}
+use Rattle.image.specs.Format.{Opening, opened, refused, opening_of}
+use Rattle.image.specs.Opened.{result_of, Read}
+use Rattle.image.specs.Sound.{Sound}
+use Rattle.image.specs.declared.parts.Parts.{Parts}
+use Rattle.image.proofs.Opening.{opened_sound, refused_early}
 
 -- the promise admits one outcome
-pub read_once : (image : List ℕ) (r s : Opened) → Read image r → Read image s → r ≡ s
-read_once image r s p q = same r s (p.number ∙ sym q.number) (p.parts ∙ sym q.parts)
-  where
-    same : (r s : Opened) → r.number ≡ s.number → r.parts ≡ s.parts → r ≡ s
-    same r s a c = rw (a, c)
+pub read_once : (image : List ℕ) (r s : Result Parts Number) → Read image r → Read image s → r ≡ s
+read_once image r s p q = p.opening ∙ sym q.opening
 
--- an image that is answered by 0 is opened as the parts that stand beside it, and they are sound
-pub read_opening : (image : List ℕ) (r : Opened) → Read image r → r.number ≡ Done → opening_of image ≡ opened r.parts
-read_opening image r p e =
-    let o = number_opened image (sym p.number ∙ e) in
-    o ∙ ap opened (sym (p.parts ∙ ap parts_in o))
+-- an opening goes by its result
+result_opened : (o : Opening) (parts : Parts) → Ok parts ≡ result_of o → o ≡ opened parts
+result_opened (opened q) parts e = cc
+result_opened (refused n) parts e = cc
 
-pub read_sound : (image : List ℕ) (r : Opened) → Read image r → r.number ≡ Done → Sound r.parts
-read_sound image r p e = (opened_sound image r.parts (read_opening image r p e)).1
+result_refused : (o : Opening) (n : Number) → Err n ≡ result_of o → o ≡ refused n
+result_refused (opened q) n e = cc
+result_refused (refused k) n e = cc
+
+-- an image that is read as parts is opened as them, and they are sound
+pub read_opening : (image : List ℕ) (parts : Parts) → Read image (Ok parts) → opening_of image ≡ opened parts
+read_opening image parts p = result_opened (opening_of image) parts p.opening
+
+pub read_sound : (image : List ℕ) (parts : Parts) → Read image (Ok parts) → Sound parts
+read_sound image parts p = (opened_sound image parts (read_opening image parts p)).1
+
+-- one that is not is refused by the number that is read, one of 1 to 5, and never the one of an image that is opened
+pub read_refused : (image : List ℕ) (n : Number) → Read image (Err n) → opening_of image ≡ refused n
+read_refused image n p = result_refused (opening_of image) n p.opening
+
+pub read_early : (image : List ℕ) (n : Number) → Read image (Err n) → (1 ≤ number_of n) × (number_of n ≤ 5)
+read_early image n p = refused_early image n (read_refused image n p)
+
+pub read_never_done : (image : List ℕ) (n : Number) → Read image (Err n) → n ≡ Done → ⊥
+read_never_done image n p e = omega (arith, read_early image n p, ap number_of e)

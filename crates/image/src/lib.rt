@@ -17,5 +17,5 @@ pub use conductances::{conductance, conductances_fit, leak};
 pub use curve::{breakpoint, breakpoint_count, curve_at, curve_length, slope};
 pub use limits::{ELEMENT, TRAILER, VERSION_2};
 pub use parts::{Curve, Element, Parts, in_version, no_curve, no_parts};
-pub use reader::{Opened, read};
+pub use reader::read;
 pub use verdict::judge;

@@ -84,7 +84,5 @@ pub fn no_parts() -> Parts
 pub fn in_version(version: u8, parts: Parts) -> Parts
     ensures { result ≡ in_version version parts }
 {
-    let mut other = parts;
-    other.version = version;
-    other
+    Parts { version, ..parts }
 }

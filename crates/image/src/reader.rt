@@ -1,22 +1,13 @@
 // The reader: five rules in the order of their numbers. Rule 6 is not a rule of reading: it is
 // `conductances_fit`, over the parts.
 ghost use Rattle.std.specs.Prelude.{◌≡◌};
-ghost use Rattle.image.specs.Parts.{no_parts};
-ghost use Rattle.image.specs.Format.{length_fits, sizes_fit, parts_of};
+ghost use Rattle.image.specs.Format.{length_fits, sizes_fit, parts_of, curve_bytes_fit};
 ghost use Rattle.image.specs.Opened.{Read};
-ghost use Rattle.image.specs.Asked.{Headed, Furnished};
+ghost use Rattle.image.specs.Asked.{Headed, Furnished, Whole};
 
 use super::parts::Parts;
-use super::trailer::Trailer;
-use super::{curve, element, limits, parts, rules, trailer};
+use super::{curve, element, limits, rules, trailer};
 use units::number::Number;
-
-// The number, and the parts if the image is opened; zeros if not.
-#[derive(Clone, Copy)]
-pub struct Opened {
-    pub number: Number,
-    pub parts: Parts,
-}
 
 fn length_fits(n: usize) -> bool
     ensures { result ≡ length_fits n }
@@ -24,15 +15,17 @@ fn length_fits(n: usize) -> bool
     (limits::SHORTEST <= n) & (n <= limits::LONGEST)
 }
 
-// Whether the distances are right and the curves fill the bytes from `first` up to the trailer.
-fn sizes_fit(image: &[u8], t: Trailer, first: usize, curves: usize) -> bool
-    requires { Headed image.now t first curves }
+// Whether the distances are right and the curves fill the bytes from the last element up to the trailer.
+fn sizes_fit(image: &[u8], header: &Parts) -> bool
+    requires { Headed image.now header.now }
     ensures { result ≡ sizes_fit image.now }
 {
+    let t = trailer::trailer_of(image);
     let before = image.len() - limits::TRAILER;
+    let first = limits::ELEMENT * (header.element_count as usize);
     (t.element_distance == before)
         & (first + t.curve_distance == before)
-        & curve::split(image, first, curves, before)
+        & curve::split(image, first, header.curve_count as usize, before)
 }
 
 // The parts, given what the trailer says of them.
@@ -41,48 +34,44 @@ fn filled(image: &[u8], header: Parts) -> Parts
     ensures { result ≡ parts_of image.now }
 {
     let n = header.element_count as usize;
-    let elements = element::elements_at(image, n);
-    let curves = curve::curves_at(image, limits::ELEMENT * n, header.curve_count as usize);
-    let mut parts = header;
-    parts.elements = elements;
-    parts.curves = curves;
-    parts
+    Parts {
+        elements: element::elements_at(image, n),
+        curves: curve::curves_at(image, limits::ELEMENT * n, header.curve_count as usize),
+        ..header
+    }
 }
 
-fn refused(number: Number) -> Opened
-    ensures { (result.number ≡ number) × (result.parts ≡ no_parts) }
+// Whether the curves' padding, slopes and breakpoints are as they should be.
+fn curve_bytes_fit(image: &[u8], parts: &Parts) -> bool
+    requires { Whole image.now parts.now }
+    ensures { result ≡ curve_bytes_fit image.now }
 {
-    let parts = parts::no_parts();
-    Opened { number, parts }
+    let first = limits::ELEMENT * (parts.element_count as usize);
+    let n = parts.curve_count as usize;
+    curve::paddings_fit(image, first, n) & rules::curves_fit(parts)
 }
 
 // Reads any bytes whatever. The lowest number that applies is the answer.
-pub fn read(image: &[u8]) -> Opened
+#[tactic(auto, unfolding(crate::specs::Format::opening_of))]
+pub fn read(image: &[u8]) -> Result<Parts, Number>
     ensures { Read image.now result }
 {
     if !length_fits(image.len()) {
-        return refused(Number::Length);
+        return Err(Number::Length);
     }
-    let at = image.len() - limits::TRAILER;
-    let t = trailer::trailer_at(image, at);
-    let header = trailer::header_at(image, at);
-    if !trailer::trailer_fits(t, header) {
-        return refused(Number::Trailer);
+    let header = trailer::header_of(image);
+    if !trailer::trailer_fits(image, &header) {
+        return Err(Number::Trailer);
     }
-    let first = limits::ELEMENT * (header.element_count as usize);
-    let n = header.curve_count as usize;
-    if !sizes_fit(image, t, first, n) {
-        return refused(Number::Sizes);
+    if !sizes_fit(image, &header) {
+        return Err(Number::Sizes);
     }
     let parts = filled(image, header);
-    if !(curve::paddings_fit(image, first, n) & rules::curves_fit(&parts)) {
-        return refused(Number::Curve);
+    if !curve_bytes_fit(image, &parts) {
+        return Err(Number::Curve);
     }
     if !rules::elements_fit(&parts) {
-        return refused(Number::Element);
+        return Err(Number::Element);
     }
-    Opened {
-        number: Number::Done,
-        parts,
-    }
+    Ok(parts)
 }

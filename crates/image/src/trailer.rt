@@ -1,7 +1,6 @@
 // The trailer: the last 16 bytes of the image, which point back and say how many there are of what.
-ghost use Rattle.std.specs.Prelude.{◌≡◌, ◌&&◌, ◌+◌, ◌≤◌, ◌<◌, eqb, length};
-ghost use Rattle.image.specs.Parts.{header_fits};
-ghost use Rattle.image.specs.Format.{trailer_size, trailer_at, header_at};
+ghost use Rattle.std.specs.Prelude.{◌≡◌, ◌≤◌, ◌<◌, length};
+ghost use Rattle.image.specs.Format.{trailer_size, trailer_of, header_of, trailer_fits};
 
 use super::parts::Parts;
 use super::{field, limits, parts, rules};
@@ -16,11 +15,12 @@ pub struct Trailer {
     pub size: usize,
 }
 
-// The trailer that starts at a place of the image.
-pub fn trailer_at(image: &[u8], at: usize) -> Trailer
-    requires { at + trailer_size ≤ length image.now }
-    ensures { (result ≡ trailer_at image.now at) × (result.curve_distance < 65536) }
+// The trailer of an image.
+pub fn trailer_of(image: &[u8]) -> Trailer
+    requires { trailer_size ≤ length image.now }
+    ensures { (result ≡ trailer_of image.now) × (result.curve_distance < 65536) }
 {
+    let at = image.len() - limits::TRAILER;
     Trailer {
         element_distance: field::short(image, at),
         curve_distance: field::short(image, at + 2),
@@ -29,24 +29,27 @@ pub fn trailer_at(image: &[u8], at: usize) -> Trailer
 }
 
 // What it says of the parts: all but the elements and the curves.
-pub fn header_at(image: &[u8], at: usize) -> Parts
-    requires { at + trailer_size ≤ length image.now }
-    ensures { result ≡ header_at image.now at }
+pub fn header_of(image: &[u8]) -> Parts
+    requires { trailer_size ≤ length image.now }
+    ensures { result ≡ header_of image.now }
 {
-    let mut header = parts::no_parts();
-    header.version = image[at + 13];
-    header.nodes = image[at + 6];
-    header.driven = image[at + 7];
-    header.output = image[at + 12];
-    header.rate = bytes::unsigned_at::<4>(image, at + 8) as u32;
-    header.element_count = image[at + 4];
-    header.curve_count = image[at + 5];
-    header
+    let at = image.len() - limits::TRAILER;
+    Parts {
+        version: image[at + 13],
+        nodes: image[at + 6],
+        driven: image[at + 7],
+        output: image[at + 12],
+        rate: bytes::unsigned_at::<4>(image, at + 8) as u32,
+        element_count: image[at + 4],
+        curve_count: image[at + 5],
+        ..parts::no_parts()
+    }
 }
 
 // Whether every field but the distances is in its range.
-pub fn trailer_fits(t: Trailer, header: Parts) -> bool
-    ensures { result ≡ (header_fits header && eqb t.size trailer_size) }
+pub fn trailer_fits(image: &[u8], header: &Parts) -> bool
+    requires { (trailer_size ≤ length image.now) × (header.now ≡ header_of image.now) }
+    ensures { result ≡ trailer_fits image.now }
 {
-    rules::header_fits(&header) & (t.size == limits::TRAILER)
+    rules::header_fits(header) & (trailer_of(image).size == limits::TRAILER)
 }

@@ -5,4 +5,4 @@ pub returns : goal.returns
 unfolding parts_of
 returns c =
     let p = c.requires in
-    rw (c.curves_at-curves.ensures, c.elements_at-elements.ensures, p.is)
+    rw (c.curves_at.ensures, c.elements_at.ensures, p.is)

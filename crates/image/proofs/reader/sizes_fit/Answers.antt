@@ -6,4 +6,4 @@ pub returns : goal.returns
 unfolding sizes_fit
 returns c =
     let p = c.requires in
-    rw (c.split.ensures, p.first_is, p.curves_are, p.is, splits_is c.args.image.now p.few_curves)
+    rw (c.split.ensures, c.trailer_of-t.ensures.0, p.is) (rw (splits_is c.args.image.now (rw p.is at p.few_curves)))

@@ -1,5 +1,5 @@
 use Rattle.image.specs.Format.{trailer_at}
-use Rattle.image.proofs.trailer.trailer_at.Goals as goal
+use Rattle.image.proofs.trailer.trailer_of.Goals as goal
 
 pub returns : goal.returns
 unfolding trailer_at
