@@ -10,7 +10,6 @@ use circuit::{Circuit, advance};
 use image::Parts;
 use std::io;
 use std::io::Stdout;
-use units::number::Number;
 use units::voltage::Voltage;
 
 // What is asked: a sample at these voltages with these stored currents, or what the circuit is by
@@ -81,11 +80,9 @@ fn of_parts(out: Stdout, parts: Parts, q: Question) -> io::Result<()>
 }
 
 fn of_bytes(out: Stdout, image: &[u8], q: Question) -> io::Result<()> {
-    let o = image::read(image);
-    let number = o.number;
-    match number {
-        Number::Done => of_parts(out, o.parts, q),
-        _ => refused(out),
+    match image::read(image) {
+        Ok(parts) => of_parts(out, parts, q),
+        Err(_) => refused(out),
     }
 }
 

@@ -5,7 +5,7 @@ ghost use Rattle.network.specs.Network.{reading, stored_limit};
 ghost use Rattle.image.specs.Sound.{Sound};
 ghost use Rattle.solve.specs.Sample.{Playable};
 
-use circuit::{advance, Circuit};
+use circuit::{Circuit, advance};
 use image::Parts;
 use solve::sample;
 use std::io;
@@ -67,11 +67,7 @@ fn propose(which: u64, driven: usize, d: i64, last: &[i64; 16]) -> [i64; 16] {
 }
 
 // One sample on a copy of the stored currents: its number.
-fn attempt(
-    circuit: &Circuit,
-    stored: &[i64; 32],
-    volts: &mut [i64; 16],
-) -> u64
+fn attempt(circuit: &Circuit, stored: &[i64; 32], volts: &mut [i64; 16]) -> u64
     requires { Playable circuit.now.board circuit.now.stretches stored.now }
 {
     let mut x = *stored;
@@ -91,12 +87,7 @@ fn alike(nodes: usize, a: &[i64; 16], b: &[i64; 16]) -> bool {
 }
 
 // Whether all proposals come to the same: one number, and one answer where there is any.
-fn agree(
-    circuit: &Circuit,
-    stored: &[i64; 32],
-    d: i64,
-    last: &[i64; 16],
-) -> bool
+fn agree(circuit: &Circuit, stored: &[i64; 32], d: i64, last: &[i64; 16]) -> bool
     requires { Playable circuit.now.board circuit.now.stretches stored.now }
 {
     let nodes = circuit.nodes();
@@ -116,12 +107,7 @@ fn agree(
 }
 
 // A sample on the stored currents themselves, from the last answer: its number.
-fn advanced(
-    circuit: &Circuit,
-    stored: &mut [i64; 32],
-    d: i64,
-    last: &mut [i64; 16],
-) -> u64
+fn advanced(circuit: &Circuit, stored: &mut [i64; 32], d: i64, last: &mut [i64; 16]) -> u64
     requires { Playable circuit.now.board circuit.now.stretches stored.old }
     ensures { Playable circuit.now.board circuit.now.stretches stored.new }
 {
@@ -198,12 +184,7 @@ fn tell(out: Stdout, number: u64, nodes: usize, volts: &[i64; 16]) -> io::Result
 }
 
 // n samples.
-fn samples(
-    out: Stdout,
-    circuit: &Circuit,
-    stored: &mut [i64; 32],
-    n: u64,
-) -> io::Result<()>
+fn samples(out: Stdout, circuit: &Circuit, stored: &mut [i64; 32], n: u64) -> io::Result<()>
     requires { Playable circuit.now.board circuit.now.stretches stored.old }
 {
     let nodes = circuit.nodes();
@@ -223,12 +204,7 @@ fn samples(
 }
 
 // One sample of drive d: from all proposals, those beside its own answer among them.
-fn once(
-    out: Stdout,
-    circuit: &Circuit,
-    stored: &mut [i64; 32],
-    d: i64,
-) -> io::Result<()>
+fn once(out: Stdout, circuit: &Circuit, stored: &mut [i64; 32], d: i64) -> io::Result<()>
     requires { Playable circuit.now.board circuit.now.stretches stored.old }
 {
     let zeros = [0i64; 16];
@@ -274,11 +250,9 @@ fn opened(out: Stdout, parts: Parts, n: u64, at: usize, x: i64, d: i64) -> io::R
 
 // An image, which must be opened.
 fn played(out: Stdout, image: &[u8], n: u64, at: usize, x: i64, d: i64) -> io::Result<()> {
-    let o = image::read(image);
-    let number = o.number;
-    match number {
-        Number::Done => opened(out, o.parts, n, at, x, d),
-        _ => stopped(out, u64::from(number)),
+    match image::read(image) {
+        Ok(parts) => opened(out, parts, n, at, x, d),
+        Err(number) => stopped(out, u64::from(number)),
     }
 }
 

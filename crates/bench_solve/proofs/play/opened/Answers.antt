@@ -9,11 +9,11 @@ use Rattle.bench_solve.proofs.play.opened.Goals as goal
 pub once-requires : goal.once-requires
 once-requires c =
     let fits : conductances_fit c.args.parts plain ≡ true = sym c.conductances_fit.ensures ∙ c.if-not-conductances_fit.false in
-    let first : Playable c.board-board.result c.stretches.new.table c.charged-stored.result = first_playable c.args.parts _ _ _ c.requires fits c.board-board.ensures c.stretches.ensures c.charged-stored.ensures in
+    let first : Playable c.circuit-circuit.result.board c.circuit-circuit.result.stretches c.charged-stored.result = first_playable c.args.parts _ _ _ c.requires fits c.circuit-circuit.ensures.board c.circuit-circuit.ensures.stretches c.charged-stored.ensures in
     first
 
 pub samples-requires : goal.samples-requires
 samples-requires c =
     let fits : conductances_fit c.args.parts plain ≡ true = sym c.conductances_fit.ensures ∙ c.if-not-conductances_fit.false in
-    let first : Playable c.board-board.result c.stretches.new.table c.charged-stored.result = first_playable c.args.parts _ _ _ c.requires fits c.board-board.ensures c.stretches.ensures c.charged-stored.ensures in
+    let first : Playable c.circuit-circuit.result.board c.circuit-circuit.result.stretches c.charged-stored.result = first_playable c.args.parts _ _ _ c.requires fits c.circuit-circuit.ensures.board c.circuit-circuit.ensures.stretches c.charged-stored.ensures in
     first

@@ -2,4 +2,4 @@ use Rattle.image.proofs.Promise.{read_sound}
 use Rattle.bench_solve.proofs.play.played.Goals as goal
 
 pub opened-requires : goal.opened-requires
-opened-requires c = read_sound c.args.image.now c.read-o.result c.read-o.ensures c.in-Done.is
+opened-requires c = read_sound c.args.image.now _ c.in-Ok.ensures

@@ -38,4 +38,4 @@ returns c =
     let l = c.loop-j in
     let n = c.args.n in
     let e : l.j ≡ n = omega (arith, l.invariant.0) in
-    rw e (all (rw e at l.invariant.1))
+    all (rw e at l.invariant.1)
