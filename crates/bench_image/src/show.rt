@@ -12,20 +12,19 @@ fn number_in(s: &[u8], n: usize) -> u64 {
     if s.len() < n {
         return 7;
     }
-    let o = image::read(&s[0..n]);
-    let number = o.number;
-    let parts = o.parts;
-    judged(number, parts)
+    match image::read(&s[..n]) {
+        Ok(parts) => u64::from(judged(parts)),
+        Err(number) => u64::from(number),
+    }
 }
 
-// The reader's number, or rule 6's of an image that it opened.
-fn judged(number: Number, parts: Parts) -> u64 {
-    if number == Number::Done {
-        if !image::conductances_fit(parts) {
-            return u64::from(Number::Conductance);
-        }
+// Rule 6's number, of an image that the reader opened and that breaks it.
+fn judged(parts: Parts) -> Number {
+    if image::conductances_fit(parts) {
+        Number::Done
+    } else {
+        Number::Conductance
     }
-    u64::from(number)
 }
 
 // The array as a slice.
@@ -141,9 +140,10 @@ fn leak(number: Number, version: u8) -> u64 {
 fn parts(out: Stdout, s: &[u8], n: usize) -> io::Result<()> {
     if n <= s.len() {
         let t = &s[0..n];
-        let o = image::read(t);
-        let number = o.number;
-        let p = o.parts;
+        let (number, p) = match image::read(t) {
+            Ok(p) => (Number::Done, p),
+            Err(number) => (number, image::no_parts()),
+        };
         head(out, leak(number, p.version), p)?;
         elements(out, p)?;
         curves(

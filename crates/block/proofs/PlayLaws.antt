@@ -6,21 +6,22 @@ use Prim.Native.Nat.{ℕ, ◌*◌, ◌≤◌}
 use native.Mathlib.Omega.{arith}
 use lib.IntN.{ℤ}
 use lib.ListN.{length}
+use Rattle.std.specs.Prelude.{Ok, Err}
 use Rattle.units.specs.Number.{number_of}
+use Rattle.units.specs.declared.number.Number.{Number}
 use Rattle.units.specs.declared.number.Number.TheVariants as number
-use Rattle.units.proofs.Numbers.{number_small, done_only}
+use Rattle.units.proofs.Numbers.{done_only}
 use Rattle.network.specs.Network.{Network, InLimits}
 use Rattle.network.specs.Sample.{answer_of}
 use Rattle.image.specs.Conductance.{conductances_fit}
-use Rattle.image.specs.Format.{Opening, opening_of, opened, refused}
+use Rattle.image.specs.Format.{opening_of, opened}
 use Rattle.image.specs.Meaning.{network_at}
-use Rattle.image.specs.Opened.{number_in, Read}
+use Rattle.image.specs.Opened.{Read}
 use Rattle.image.specs.Setting.{plain}
 use Rattle.image.specs.Sound.{Sound}
 use Rattle.image.specs.declared.parts.Parts.{Parts}
-use Rattle.image.specs.declared.reader.Opened.{Opened}
 use Rattle.image.proofs.Opening.{opened_sound}
-use Rattle.image.proofs.Promise.{read_opening}
+use Rattle.image.proofs.Promise.{read_opening, read_refused, read_never_done}
 use Rattle.image.proofs.Sound.{in_limits}
 use Rattle.circuit.specs.Board.{nodes_on, driven_on, network_on, Ready}
 use Rattle.opening.specs.Opening.{board_of, stretches_of}
@@ -40,25 +41,18 @@ parts_limits image parts e t = in_limits parts plain (opened_sound image parts e
 pub parts_heard : (image : List ℕ) (parts : Parts) → opening_of image ≡ opened parts → parts.output ≤ parts.nodes
 parts_heard image parts e = (opened_sound image parts e).1.output_there
 
-module _ (image : List ℕ) (r : Opened) (read : Read image r) where
+module _ (image : List ℕ) where
   -- refused by the reader
-  pub admission_refused : (number_of r.number ≡ 0 → ⊥) → Admits image (record { number = number_of r.number; parts = r.parts })
-  admission_refused some = record { small = number_small r.number; opens = λ z. absurd (some z); refuses = λ z x n drives outputs. go (opening_of image) refl x n drives outputs }
-    where
-      go : (o : Opening) → opening_of image ≡ o → (x : State) (n : ℕ) (drives outputs : List ℕ) → Plays image x n drives outputs (number_of r.number) 0 x outputs
-      go (opened parts) e x n drives outputs = absurd (some (ap number_of (read.number ∙ ap number_in e)))
-      go (refused k) e x n drives outputs = rw (read.number ∙ ap number_in e) (image-refused e)
+  pub admission_refused : (k : Number) → Read image (Err k) → Admits image (Err k)
+  admission_refused k read = (λ z. read_never_done image k read (done_only k z), λ x n drives outputs. image-refused (read_refused image k read))
 
   -- let through by it: the conductances decide
-  module _ (zero : number_of r.number ≡ 0) where
-    is_opened : opening_of image ≡ opened r.parts
-    is_opened = read_opening image r read (done_only r.number zero)
+  module _ (parts : Parts) (read : Read image (Ok parts)) where
+    pub admission_done : conductances_fit parts plain ≡ true → Admits image (Ok parts)
+    admission_done t = (read_opening image parts read, t)
 
-    pub admission_done : conductances_fit r.parts plain ≡ true → Admits image (record { number = number_of r.number; parts = r.parts })
-    admission_done t = record { small = number_small r.number; opens = λ z. (is_opened, t); refuses = λ some. absurd (some zero) }
-
-    pub admission_conductance : conductances_fit r.parts plain ≡ false → Admits image (record { number = number_of number.Conductance; parts = r.parts })
-    admission_conductance f = record { small = omega arith; opens = λ z. absurd (omega arith); refuses = λ some x n drives outputs. conductance-refused is_opened f }
+    pub admission_conductance : conductances_fit parts plain ≡ false → Admits image (Err number.Conductance)
+    admission_conductance f = (λ z. omega arith, λ x n drives outputs. conductance-refused (read_opening image parts read) f)
 
 -- ---- the state, the lengths and the samples of a circuit
 

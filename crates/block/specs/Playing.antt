@@ -1,21 +1,21 @@
 -- What is known between the samples of a block, and what comes of them all. Assumes nothing.
-use Rattle.std.specs.Prelude.{◌≡◌, true, List, ℕ, ◌+◌, ◌*◌, ◌≤◌, ◌<◌, ℤ, length}
+use Rattle.std.specs.Prelude.{◌≡◌, true, List, ℕ, ◌+◌, ◌*◌, ◌≤◌, ◌<◌, ℤ, length, Result, Ok, Err}
 use Rattle.units.specs.Number.{number_of}
+use Rattle.units.specs.declared.number.Number.{Number}
 use Rattle.network.specs.Network.{Network, reading}
 use Rattle.network.specs.Sample.{Outcome, answer_of, Gives}
 use Rattle.image.specs.Conductance.{conductances_fit}
 use Rattle.image.specs.Format.{opening_of, opened}
 use Rattle.image.specs.Setting.{plain}
+use Rattle.image.specs.declared.parts.Parts.{Parts}
 use Rattle.circuit.specs.Board.{nodes_on, driven_on}
 use Rattle.block.specs.Block.{block_limit, Run, Plays}
 use Rattle.block.specs.declared.call.State.{State}
-use Rattle.block.specs.declared.play.Admission.{Admission}
 
--- what comes of an image: the parts of a circuit that can be played, or refused whatever else is given
-pub record Admits (image : List ℕ) (r : Admission) : Type 0 where
-  pub small : r.number ≤ 11
-  pub opens : r.number ≡ 0 → (opening_of image ≡ opened r.parts) × (conductances_fit r.parts plain ≡ true)
-  pub refuses : (r.number ≡ 0 → ⊥) → (x : State) (n : ℕ) (drives outputs : List ℕ) → Plays image x n drives outputs r.number 0 x outputs
+-- what comes of an image: the parts of a circuit that can be played, or a number that refuses whatever else is given
+abbrev pub Admits : List ℕ → Result Parts Number → Type 0
+Admits image (Ok parts) = (opening_of image ≡ opened parts) × (conductances_fit parts plain ≡ true)
+Admits image (Err k) = (number_of k ≡ 0 → ⊥) × ((x : State) (n : ℕ) (drives outputs : List ℕ) → Plays image x n drives outputs (number_of k) 0 x outputs)
 
 -- the drives of sample j are there
 pub record Driven (board drives : List ℕ) (j : ℕ) : Type 0 where

@@ -24,17 +24,19 @@ pub struct Played {
 pub fn block(image: &[u8], state: State, n: u64, drives: &[u8], outputs: &mut [u8]) -> Played
     ensures { Plays image.now state n drives.now outputs.old result.number result.count result.state outputs.new }
 {
-    let admission = play::admit(image);
-    if admission.number != 0 {
-        return Played {
-            number: admission.number,
-            count: 0,
-            state,
-        };
-    }
+    let parts = match play::admit(image) {
+        Ok(parts) => parts,
+        Err(number) => {
+            return Played {
+                number: u64::from(number),
+                count: 0,
+                state,
+            };
+        }
+    };
     let given = state.currents;
     let mut x = state::known(given);
-    let answer = play::play(admission.parts, n, drives, &mut x, outputs);
+    let answer = play::play(parts, n, drives, &mut x, outputs);
     let after = State { currents: x };
     Played {
         number: answer / 65536,
@@ -54,15 +56,15 @@ pub fn krtovalin_block(
 ) -> u64
     ensures { Called image.now state.old n drives.now outputs.old result state.new outputs.new }
 {
-    let admission = play::admit(image);
-    if admission.number != 0 {
-        return admission.number * 65536;
-    }
+    let parts = match play::admit(image) {
+        Ok(parts) => parts,
+        Err(number) => return play::refused(number),
+    };
     if state.len() != 256 {
         return play::refused(Number::State);
     }
     let mut x = state::read(state);
-    let answer = play::play(admission.parts, n, drives, &mut x, outputs);
+    let answer = play::play(parts, n, drives, &mut x, outputs);
     if answer % 65536 != 0 {
         state::write(state, &x);
     }

@@ -12,31 +12,15 @@ use crate::{lengths, run, state};
 use image::Parts;
 use units::number::Number;
 
-// What comes of an image: document 01's number, up to 6, and the parts if that is 0.
-#[derive(Clone, Copy)]
-pub struct Admission {
-    pub number: u64,
-    pub parts: Parts,
-}
-
-// Whether a circuit can be played from an image.
-pub fn admit(image: &[u8]) -> Admission
+// The parts of a circuit that can be played from an image, or document 01's number, of 1 to 6.
+pub fn admit(image: &[u8]) -> Result<Parts, Number>
     ensures { Admits image.now result }
 {
-    let opened = image::read(image);
-    let parts = opened.parts;
-    let answer = opened.number;
-    let number = u64::from(answer);
-    if number != 0 {
-        return Admission { number, parts };
+    let parts = image::read(image)?;
+    if !image::conductances_fit(parts) {
+        return Err(Number::Conductance);
     }
-    if image::conductances_fit(parts) {
-        return Admission { number, parts };
-    }
-    Admission {
-        number: u64::from(Number::Conductance),
-        parts,
-    }
+    Ok(parts)
 }
 
 // An answer with no sample done.

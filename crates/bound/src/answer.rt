@@ -34,10 +34,8 @@ pub fn put(text: &mut [u8], image: &[u8]) -> usize
     requires { 4096 ≤ length text.old }
     ensures { Answered (opening_of image.now) text.old result text.new × (result ≤ length text.new) }
 {
-    let opened = image::read(image);
-    let number = opened.number;
-    match number {
-        Number::Done => put_judged(text, opened.parts),
-        _ => put_refused(text, number),
+    match image::read(image) {
+        Ok(parts) => put_judged(text, parts),
+        Err(number) => put_refused(text, number),
     }
 }

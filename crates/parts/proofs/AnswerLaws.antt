@@ -6,16 +6,10 @@ use Rattle.units.specs.Number.{number_of}
 use Rattle.units.specs.declared.number.Number.{Number}
 use Rattle.units.specs.declared.number.Number.TheVariants.{Done}
 use Rattle.image.specs.Format.{Opening, opened, refused}
-use Rattle.image.specs.Opened.{number_in}
 use Rattle.image.specs.declared.parts.Parts.{Parts}
 use Rattle.parts.specs.Answer.{outcome_of, curves_after}
 use Rattle.parts.specs.declared.answer.Outcome.{Outcome}
 use Rattle.parts.specs.declared.answer.Outcome.TheVariants.{Refused, Unnamed, Netlist}
-
--- the number of an image that was not opened is its outcome
-pub refused_outcome : (o : Opening) (number : Number) → number ≡ number_in o → (number ≡ Done → ⊥) → Refused (number_of number) ≡ outcome_of o
-refused_outcome (opened parts) number e h = absurd (h e)
-refused_outcome (refused n) number e h = rw e
 
 -- curves are written of a netlist alone
 pub curve_written : (o : Outcome) (parts : Parts) (k : ℕ) → k < curves_after o parts → (o ≡ Netlist) × (k < parts.curve_count)

@@ -41,18 +41,15 @@ fn judged(parts: Parts) -> Outcome
 pub fn to(image: &[u8]) -> Answer
     ensures { Answers (opening_of image.now) result }
 {
-    let opened = image::read(image);
-    let parts = opened.parts;
-    let number = opened.number;
-    match number {
-        Number::Done => {
-            let outcome = judged(parts);
-            Answer { outcome, parts }
-        }
-        _ => {
-            let outcome = Outcome::Refused(u64::from(number));
-            Answer { outcome, parts }
-        }
+    match image::read(image) {
+        Ok(parts) => Answer {
+            outcome: judged(parts),
+            parts,
+        },
+        Err(number) => Answer {
+            outcome: Outcome::Refused(u64::from(number)),
+            parts: image::no_parts(),
+        },
     }
 }
 

@@ -1,5 +1,7 @@
 -- What a block's promise says of its count and lengths, and how the text goes on. Assumes nothing.
-use mathlib.Core.Path.{◌≡◌, refl, ◌∙◌, ap}
+use mathlib.Core.Path.{◌≡◌, refl}
+use Rattle.std.specs.Prelude.{Ok, Err}
+use Rattle.units.specs.declared.number.Number.{Number}
 use mathlib.Core.List.{List, ◌++◌}
 use Prim.Native.Nat.{ℕ, zero, suc, ◌+◌, ◌*◌, ◌/◌, ◌≤◌}
 use native.Mathlib.Numerals.{add-one}
@@ -9,12 +11,10 @@ use lib.ListN.{length}
 use borrow.Author.Tests.{ne_eqb}
 use Rattle.console.specs.Text.{decimal, line_end, line, refused_word, Adds}
 use Rattle.console.proofs.TextLaws.{adds_none, adds_then, adds_within}
-use Rattle.image.specs.Format.{Opening, opening_of, opened, refused}
-use Rattle.image.specs.Opened.{parts_in, Read}
-use Rattle.image.specs.Parts.{no_parts}
+use Rattle.image.specs.Format.{opening_of}
+use Rattle.image.specs.Opened.{Read}
 use Rattle.image.specs.declared.parts.Parts.{Parts}
-use Rattle.image.specs.declared.reader.Opened.{Opened}
-use Rattle.image.proofs.Opening.{opened_sound}
+use Rattle.image.proofs.Promise.{read_opening, read_refused, read_sound}
 use Rattle.block.specs.Block.{PlaysOn, state-refused, lengths-refused, sample-refused, done, Plays, image-refused, conductance-refused, plays-on}
 use Rattle.block.proofs.SampleLaws.{run_length}
 use Rattle.block.specs.declared.call.State.{State}
@@ -77,15 +77,10 @@ sets_some bytes driven h = rw (ne_eqb driven 0 h)
 
 -- ---- how many nodes are driven
 
-pub driven_is : {image : List ℕ} {r : Opened} → Read image r → (r.parts.driven ≡ driven_of (opening_of image)) × (r.parts.driven ≤ 15)
-unfolding no_parts
-driven_is {image} {r} p = by (opening_of image) refl
-  where
-    by : (q : Opening) → opening_of image ≡ q → (r.parts.driven ≡ driven_of (opening_of image)) × (r.parts.driven ≤ 15)
-    by (refused k) e =
-        let z : r.parts ≡ no_parts = p.parts ∙ ap parts_in e in
-        (rw (z, e), rw z (omega arith))
-    by (opened parts) e =
-        let z : r.parts ≡ parts = p.parts ∙ ap parts_in e in
-        let s = (opened_sound image parts e).1 in
-        (rw (z, e), rw z (omega (arith, s.driven_there, s.few_nodes)))
+pub driven_opened : {image : List ℕ} {parts : Parts} → Read image (Ok parts) → (parts.driven ≡ driven_of (opening_of image)) × (parts.driven ≤ 15)
+driven_opened {image} {parts} p =
+    let s = read_sound image parts p in
+    (rw (read_opening image parts p), omega (arith, s.driven_there, s.few_nodes))
+
+pub driven_refused : {image : List ℕ} {k : Number} → Read image (Err k) → 0 ≡ driven_of (opening_of image)
+driven_refused {image} {k} p = rw (read_refused image k p)

@@ -20,9 +20,10 @@ pub struct Turn {
 fn driven(image: &[u8]) -> usize
     ensures { (result ≡ driven_of (opening_of image.now)) × (result ≤ 15) }
 {
-    let opened = image::read(image);
-    let parts = opened.parts;
-    parts.driven as usize
+    match image::read(image) {
+        Ok(parts) => parts.driven as usize,
+        Err(_) => 0,
+    }
 }
 
 // How many full sets of drives so many bytes hold.

@@ -1,21 +1,14 @@
-use mathlib.Core.Path.{sym, ◌∙◌}
+use Rattle.std.proofs.Common.{◌≡◌, Err, sym, ◌∙◌, rules}
 use Rattle.block.proofs.PlayLaws.{admission_refused, admission_done, admission_conductance}
 use Rattle.block.proofs.play.admit.Goals as goal
 
-pub returns-then-number-ne0 : goal.returns-then-number-ne0
-returns-then-number-ne0 c =
-    let r = c.read-opened in
-    let v = c.from-number.ensures in
-    rw v (admission_refused _ r.result r.ensures (λ e. c.if-number-ne0.true (v ∙ e)))
+pub returns-in_err-parts : goal.returns-in_err-parts
+returns-in_err-parts c =
+    let refused : c.from_residual.result ≡ Err c.in_err-parts.field-0.0 = search rules in
+    rw refused (admission_refused _ _ c.in_err-parts.ensures)
 
-pub returns-then-conductances_fit : goal.returns-then-conductances_fit
-returns-then-conductances_fit c =
-    let r = c.read-opened in
-    let v = c.from-number.ensures in
-    rw v (admission_done _ r.result r.ensures (sym v ∙ c.if-number-ne0.false) (sym c.conductances_fit.ensures ∙ c.if-conductances_fit.true))
+pub returns-then-not-conductances_fit : goal.returns-then-not-conductances_fit
+returns-then-not-conductances_fit c = admission_conductance _ _ c.in_ok-parts.ensures (sym c.conductances_fit.ensures ∙ c.if-not-conductances_fit.true)
 
 pub returns : goal.returns
-returns c =
-    let r = c.read-opened in
-    let v = c.from-number.ensures in
-    rw c.from.ensures (admission_conductance _ r.result r.ensures (sym v ∙ c.if-number-ne0.false) (sym c.conductances_fit.ensures ∙ c.if-conductances_fit.false))
+returns c = admission_done _ _ c.in_ok-parts.ensures (sym c.conductances_fit.ensures ∙ c.if-not-conductances_fit.false)

@@ -1,18 +1,12 @@
-use Rattle.image.proofs.Promise.{read_opening, read_sound}
+use mathlib.Core.Path.{refl}
+use Rattle.image.proofs.Promise.{read_opening, read_refused, read_sound}
 use Rattle.parts.proofs.answer.to.Goals as goal
 
-pub judged-outcome-requires : goal.judged-outcome-requires
-judged-outcome-requires c =
-    let r = c.read-opened in
-    read_sound c.args.image.now r.result r.ensures c.in-Done.is
+pub judged-requires : goal.judged-requires
+judged-requires c = read_sound _ _ c.in-Ok.ensures
 
-pub returns-in-Done : goal.returns-in-Done
-returns-in-Done c =
-    let r = c.read-opened in
-    let image = c.args.image.now in
-    let done = c.in-Done.is in
-    record {
-      outcome = rw (read_opening image r.result r.ensures done) c.judged-outcome.ensures;
-      parts = r.ensures.parts;
-      ready = λ e. read_sound image r.result r.ensures done;
-    }
+pub returns-in-Ok : goal.returns-in-Ok
+returns-in-Ok c = rw (read_opening _ _ c.in-Ok.ensures) (record { outcome = c.judged.ensures; parts = refl; ready = λ e. read_sound _ _ c.in-Ok.ensures })
+
+pub returns-in-Err : goal.returns-in-Err
+returns-in-Err c = rw (read_refused _ _ c.in-Err.ensures) (record { outcome = cc; parts = c.no_parts.ensures; ready = λ e. cc })

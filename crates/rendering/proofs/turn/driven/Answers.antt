@@ -1,5 +1,8 @@
-use Rattle.rendering.proofs.RenderingLaws.{driven_is}
+use Rattle.rendering.proofs.RenderingLaws.{driven_opened, driven_refused}
 use Rattle.rendering.proofs.turn.driven.Goals as goal
 
-pub returns : goal.returns
-returns c = driven_is c.read-opened.ensures
+pub returns-in-Ok : goal.returns-in-Ok
+returns-in-Ok c = driven_opened c.in-Ok.ensures
+
+pub returns-in-Err : goal.returns-in-Err
+returns-in-Err c = (driven_refused c.in-Err.ensures, omega arith)
