@@ -1,5 +1,5 @@
 -- A curve as lines, in the words that the bench's circuits use for one. Assumes nothing.
-use Rattle.std.specs.Prelude.{List, [], ◌∷◌, ◌++◌, ℕ, suc, ℤ, pos, get_or}
+use Rattle.std.specs.Prelude.{◌≡◌, List, [], ◌∷◌, ◌++◌, ℕ, suc, ◌<◌, ℤ, pos, length, get_or}
 use Rattle.units.specs.Table.{in_turn}
 use Rattle.network.specs.Network.{reading}
 use Rattle.image.specs.declared.parts.Curve.{Curve}
@@ -11,6 +11,10 @@ spaced z = 32 ∷ number z
 
 abbrev pub spaced_all : (ℕ → ℤ) → ℕ → List ℕ
 spaced_all f = in_turn (λ (j : ℕ). spaced (f j))
+
+-- these are numbers of a type, each of which is read as z says at its place
+abbrev pub ReadAs : {T : Type 0} → (T → ℤ → Type 0) → List T → (ℕ → ℤ) → Type 0
+ReadAs {T} converts numbers z = (j : ℕ) (number : T) (read : ℤ) → j < length numbers → number ≡ get_or numbers j number → converts number read → read ≡ z j
 
 -- a slope as a number
 abbrev pub slope_number : List ℕ → ℕ → ℤ

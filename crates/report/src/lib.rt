@@ -7,7 +7,7 @@ mod fields;
 mod nodes;
 mod parts;
 
-pub use curve::{put_curve, put_spaced, whole_slope};
+pub use curve::{put_curve, put_spaced};
 pub use fields::{put_column, put_last, put_named};
 pub use nodes::put_bounds;
 pub use parts::{letter, put_parts};

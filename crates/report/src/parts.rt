@@ -9,6 +9,7 @@ use super::fields;
 use console::text;
 use image::{Element, Parts};
 use network::kind;
+use network::kind::Kind;
 
 // The version and the nodes, at the start of `text`.
 fn put_node_numbers(text: &mut [u8], parts: Parts) -> usize
@@ -35,17 +36,12 @@ fn put_size_numbers(text: &mut [u8], at: usize, parts: Parts) -> usize
 pub fn letter(kind: u8) -> u8
     ensures { result ≡ letter kind }
 {
-    let k = kind as u64;
-    if k == kind::RESISTOR {
-        return b'R';
+    match Kind::of(kind as u64) {
+        Some(Kind::Resistor) => b'R',
+        Some(Kind::Capacitor) => b'C',
+        Some(Kind::Inductor) => b'L',
+        _ => b'D',
     }
-    if k == kind::CAPACITOR {
-        return b'C';
-    }
-    if k == kind::INDUCTOR {
-        return b'L';
-    }
-    b'D'
 }
 
 // What makes an element's current.
@@ -80,10 +76,8 @@ fn put_elements(text: &mut [u8], at: usize, parts: Parts) -> usize
     let elements = parts.elements;
     let n = parts.element_count as usize;
     let mut end = at;
-    let mut j: usize = 0;
-    while j < n {
-        end = put_element(text, end, elements[j], parts.rate);
-        j += 1;
+    for e in &elements[..n] {
+        end = put_element(text, end, *e, parts.rate);
     }
     end
 }

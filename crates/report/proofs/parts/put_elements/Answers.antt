@@ -1,15 +1,16 @@
-use mathlib.Core.Path.{refl, sym}
-use native.Mathlib.Omega.{arith}
-use borrow.Author.Rules.{rules}
+use Rattle.std.proofs.Common.{◌<◌, arith, sym}
+use lib.ListN.{length-take}
+use Rattle.std.proofs.lemmas.List.{get_or-take}
 use Rattle.image.proofs.Places.{element_there}
 use Rattle.report.proofs.TurnLaws.{turn_none, turn_more}
 use Rattle.report.proofs.parts.put_elements.Goals as goal
 
-pub loop-j-init : goal.loop-j-init
-loop-j-init c = (omega arith, refl, turn_none _)
+pub loop-e-init : goal.loop-e-init
+loop-e-init c = turn_none _
 
-pub loop-j-preserved : goal.loop-j-preserved
-loop-j-preserved c =
-    let l = c.loop-j in
+pub loop-e-preserved : goal.loop-e-preserved
+loop-e-preserved c =
     let parts = c.args.parts in
-    (search rules, search rules, turn_more _ l.j l.invariant.2 (rw (sym (element_there parts l.j c.loop-j-test.true)) at c.put_element-end.ensures))
+    let j = c.loop-e.e-index in
+    let there : j < parts.element_count = omega (arith, length-take parts.element_count parts.elements) in
+    turn_more _ j c.loop-e.invariant (rw (get_or-take _ parts.elements j _ there, sym (element_there parts j there)) at c.put_element-end.ensures)

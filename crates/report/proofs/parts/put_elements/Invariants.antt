@@ -1,12 +1,7 @@
-use mathlib.Core.Path.{◌≡◌}
-use Prim.Native.Nat.{◌*◌, ◌-◌, ◌≤◌}
-use lib.ListN.{length}
+use Prim.Native.Nat.{◌*◌}
 use Rattle.console.specs.Text.{Adds}
 use Rattle.report.specs.Parts.{element_lines}
 use Rattle.report.proofs.parts.put_elements.Given as goal
 
-abbrev pub invariant-loop-j : goal.invariant-loop-j
-invariant-loop-j l = (l.j ≤ l.n) × (length l.text ≡ length l.initial.text) × Adds (element_lines l.parts l.j) (86 * l.j) l.at l.initial.text l.end l.text
-
-abbrev pub decreases-loop-j : goal.decreases-loop-j
-decreases-loop-j l = l.n - l.j
+abbrev pub invariant-loop-e : goal.invariant-loop-e
+invariant-loop-e l = Adds (element_lines l.parts l.e-index) (86 * l.e-index) l.at l.initial.text l.end l.text
