@@ -4,14 +4,14 @@ import pathlib
 import re
 import sys
 
-# Board, stretches, stored currents, voltages, and the five arrays that the guess keeps. What is answered is how the guess ended, and no one asks for it.
-CALL = re.compile(r'^  %\w+ = call \{ i8, double \} @"guess::proposal::propose"\((?:ptr (%\w+)(?:, )?){9}\)$', re.M)
+# Circuit, which begins with its board, stored currents, voltages, and what the guess keeps. What is answered is how the guess ended, and no one asks for it.
+CALL = re.compile(r'^  %\w+ = call \{ i8, double \} @"guess::proposal::propose"\((?:ptr (%\w+)(?:, )?){4}\)$', re.M)
 OUTSIDE = "\ndeclare void @bench_wild(ptr, ptr)\n"
 
 
 def overwritten(call):
     places = re.findall(r"ptr (%\w+)", call.group())
-    return f"{call.group()}\n  call void @bench_wild(ptr {places[0]}, ptr {places[3]})"
+    return f"{call.group()}\n  call void @bench_wild(ptr {places[0]}, ptr {places[2]})"
 
 
 def main(old, new):

@@ -11,7 +11,6 @@ use crate::memory::Memory;
 use crate::rows::Rows;
 use crate::{lines, places, ties, whole};
 use circuit::Circuit;
-use units::signed;
 use units::voltage::Voltage;
 
 // How a guess ended. The first two carry the largest net current that remains at a free node, at the
@@ -84,12 +83,10 @@ fn whole_step(step: f64) -> i64
     ensures { unsigned_abs result ≤ 2 ^ 28 }
 {
     let above = step + 67108864.0;
-    if above > -1.0 {
-        if above < 18446744073709551616.0 {
-            let raised = std::num::truncating_f64_to_u64(above);
-            if raised <= 134217728 {
-                return signed::minus(signed::whole(raised), 67108864);
-            }
+    if above > -1.0 && above < 18446744073709551616.0 {
+        let raised = std::num::truncating_f64_to_u64(above);
+        if raised <= 134217728 {
+            return raised as i64 - 67108864;
         }
     }
     0
@@ -100,7 +97,7 @@ fn gone(v: i64, step: f64) -> i64
     requires { InRange v }
     ensures { InRange result }
 {
-    Voltage::clamped(signed::plus(v, whole_step(within(step))))
+    Voltage::clamped(v + whole_step(within(step)))
 }
 
 // The node of row k goes a part of the way that x says, and x is what is left of it. How far it went: most
