@@ -16,8 +16,8 @@
 /* Where the trailer has the output node. */
 #define OUTPUT 12
 
-int64_t bench_net(const void *board, const void *stretches, const void *stored, const int64_t *volts, uint64_t node);
-void bench_lent(const void *board, const void *stretches, const int64_t *volts, const void *stored);
+int64_t bench_net(const void *circuit, const void *stored, const int64_t *volts, uint64_t node);
+void bench_lent(const void *circuit, const int64_t *volts, const void *stored);
 
 static size_t begun, samples;
 static long runs;
@@ -25,7 +25,7 @@ static uint64_t node;
 
 /* What a sample is lent, its voltages in an array of our own. */
 struct lent {
-    const void *board, *stretches, *stored;
+    const void *circuit, *stored;
     int64_t volts[PLACES];
     volatile int64_t sum;
 };
@@ -36,15 +36,15 @@ static void evaluate(void *lent)
     int64_t here = at->volts[node], sum = 0;
     for (int64_t i = 0; i < ROUNDS; i++) {
         at->volts[node] = here + i % VALUES - VALUES / 2;
-        sum += bench_net(at->board, at->stretches, at->stored, at->volts, node);
+        sum += bench_net(at->circuit, at->stored, at->volts, node);
     }
     at->volts[node] = here;
     at->sum = sum;
 }
 
-void bench_lent(const void *board, const void *stretches, const int64_t *volts, const void *stored)
+void bench_lent(const void *circuit, const int64_t *volts, const void *stored)
 {
-    struct lent lent = {board, stretches, stored, {0}, 0};
+    struct lent lent = {circuit, stored, {0}, 0};
     if (++begun != samples)
         return;
     memcpy(lent.volts, volts, sizeof lent.volts);
