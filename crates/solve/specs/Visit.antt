@@ -1,5 +1,5 @@
 -- What a visit says of the voltages that it is made for, and of those that it comes to. Assumes nothing.
-use Rattle.std.specs.Prelude.{◌≡◌, cond, List, Option, Some, None, ℕ, suc, ◌≤◌, ◌<◌, ℤ, pos, ◌+ℤ◌, set, ◌≤ℤ◌, ◌<ℤ◌}
+use Rattle.std.specs.Prelude.{◌≡◌, Bool, true, false, cond, List, ℕ, suc, ◌≤◌, ◌<◌, ℤ, pos, ◌+ℤ◌, set, ◌≤ℤ◌, ◌<ℤ◌}
 use Rattle.units.specs.Voltage.{below_top}
 use Rattle.network.specs.Network.{Free, reading, net}
 use Rattle.network.specs.Sample.{Legal, Low, Answer}
@@ -11,7 +11,6 @@ use Rattle.solve.specs.declared.certify.Stance.{Stance}
 use Rattle.solve.specs.declared.certify.Stance.TheVariants.{Back, Waits, Goes}
 use Rattle.solve.specs.declared.certify.Lap.{Lap}
 use Rattle.solve.specs.declared.certify.Lap.TheVariants.{Through, Sticks, Went}
-use Rattle.solve.specs.declared.point.Point.{Point}
 
 -- one microvolt more, below the top
 abbrev pub one_up : ℤ → ℤ
@@ -54,7 +53,7 @@ VisitedAll board stretches stored volts before after Went = height (network_on b
 abbrev pub AllGo : (board : List ℕ) (volts s w : List ℤ) → Type 0
 AllGo board volts s w = (i : ℕ) → driven_on board < i → i ≤ nodes_on board → reading volts i <ℤ reading s i → pos 0 <ℤ reading w i
 
--- what came of the whole visit: `volts` is the answer if it is legal and low, or a point is higher
-abbrev pub Judged : (board : List ℕ) (stretches stored volts : List ℤ) → Option Point → Type 0
-Judged board stretches stored volts None = (d : ℕ → ℤ) → Legal (network_on board stretches) d (reading volts) → Low (network_on board stretches) (reading stored) (reading volts) → Answer (network_on board stretches) (reading stored) d (reading volts)
-Judged board stretches stored volts (Some up) = Searching board stretches stored up.volts up.nets × Risen board stretches stored volts up.volts
+-- what came of the whole visit, whether `volts` are the highest: they are the answer if they are legal and low, or s is higher
+abbrev pub Judged : (board : List ℕ) (stretches stored volts s : List ℤ) → Bool → Type 0
+Judged board stretches stored volts s true = (d : ℕ → ℤ) → Legal (network_on board stretches) d (reading volts) → Low (network_on board stretches) (reading stored) (reading volts) → Answer (network_on board stretches) (reading stored) d (reading volts)
+Judged board stretches stored volts s false = Risen board stretches stored volts s

@@ -130,25 +130,20 @@ fn all_go(circuit: &Circuit, volts: &[i64; 16], up: &Point) -> bool
     true
 }
 
-// The whole visit for the voltages of `at`: where it sticks, which is higher and low, or that nothing is. Nodes
-// are moved only if not all may go back at once.
-pub fn certify(circuit: &Circuit, stored: &[i64; 32], at: &Point) -> Option<Point>
-    requires { Searching circuit.now.board circuit.now.stretches stored.now at.now.volts at.now.nets }
-    ensures { Judged circuit.now.board circuit.now.stretches stored.now at.now.volts result }
+// The whole visit for `volts`, whether they are the highest; `up` begins as a copy of them and of their net
+// currents, and is a higher point if there is one. Nodes are moved only if not all may go back at once.
+pub fn certify(circuit: &Circuit, stored: &[i64; 32], volts: &[i64; 16], up: &mut Point) -> bool
+    requires { Searching circuit.now.board circuit.now.stretches stored.now up.old.volts up.old.nets × (up.old.volts ≡ volts.now) }
+    ensures { Searching circuit.now.board circuit.now.stretches stored.now up.new.volts up.new.nets × Judged circuit.now.board circuit.now.stretches stored.now volts.now up.new.volts result }
 {
-    let mut up = *at;
-    lift(circuit, stored, &at.volts, &mut up);
-    if all_go(circuit, &at.volts, &up) {
-        return None;
+    lift(circuit, stored, volts, up);
+    if all_go(circuit, volts, up) {
+        return true;
     }
     loop {
-        match visit_all(circuit, stored, &at.volts, &mut up) {
-            Lap::Through => {
-                return None;
-            }
-            Lap::Sticks => {
-                return Some(up);
-            }
+        match visit_all(circuit, stored, volts, up) {
+            Lap::Through => return true,
+            Lap::Sticks => return false,
             Lap::Went => {}
         }
     }

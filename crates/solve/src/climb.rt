@@ -113,12 +113,15 @@ pub fn climb(circuit: &Circuit, stored: &[i64; 32], at: &mut Point)
     ensures { Topped circuit.now.board circuit.now.stretches stored.now at.old.volts at.new.volts }
 {
     let mut reach: u64 = 0;
-    while let Some(higher) = certify::certify(circuit, stored, at) {
-        let t = farther(stride(circuit, at, &higher), reach);
+    loop {
+        let mut up = *at;
+        if certify::certify(circuit, stored, &at.volts, &mut up) {
+            return;
+        }
+        let t = farther(stride(circuit, at, &up), reach);
         reach = onward(reach);
-        let mut high = higher;
-        raise(circuit, stored, &at.volts, t, &mut high);
-        *at = high;
+        raise(circuit, stored, &at.volts, t, &mut up);
+        *at = up;
         settle::settle(circuit, stored, at).unwrap();
     }
 }

@@ -2,13 +2,13 @@ use Rattle.solve.proofs.VisitLaws.{visiting_start, judged_highest, judged_at_onc
 use Rattle.solve.proofs.certify.certify.Goals as goal
 
 pub returns-then-all_go : goal.returns-then-all_go
-returns-then-all_go c = judged_at_once (visiting_start c.requires.evaluable.ranged c.lift.ensures.0 c.lift.ensures.1) (c.all_go.ensures c.if-all_go.true)
+returns-then-all_go c = let p = c.requires in let v = visiting_start (rw p.1 at p.0.evaluable.ranged) c.lift.ensures.0 c.lift.ensures.1 in (v.searching, judged_at_once v (c.all_go.ensures c.if-all_go.true))
 
-pub loop-up-init : goal.loop-up-init
-loop-up-init c = visiting_start c.requires.evaluable.ranged c.lift.ensures.0 c.lift.ensures.1
+pub loop-init : goal.loop-init
+loop-init c = let p = c.requires in visiting_start (rw p.1 at p.0.evaluable.ranged) c.lift.ensures.0 c.lift.ensures.1
 
 pub returns-in-Through : goal.returns-in-Through
-returns-in-Through c = let k = c.in-Through.ensures in judged_highest k.0 k.1
+returns-in-Through c = let k = c.in-Through.ensures in (k.0.searching, judged_highest k.0 k.1)
 
 pub returns-in-Sticks : goal.returns-in-Sticks
 returns-in-Sticks c =
