@@ -10,7 +10,6 @@ use crate::point::Point;
 use crate::settle::NoneInRange;
 use crate::{climb, settle};
 use circuit::{Circuit, places};
-use units::signed;
 use units::voltage::Voltage;
 
 // Where a free node begins: at the top, or where it is given, brought into range.
@@ -46,7 +45,7 @@ fn is_start(circuit: &Circuit, stored: &[i64; 32], volts: &[i64; 16]) -> bool
 {
     let nodes = circuit.nodes();
     for i in circuit.driven() + 1..nodes + 1 {
-        if signed::less(circuit.net_current(stored, volts, i), 0) {
+        if circuit.net_current(stored, volts, i) < 0 {
             return false;
         }
     }

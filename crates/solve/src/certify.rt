@@ -68,10 +68,10 @@ fn visit_at(
     ensures { Searching circuit.now.board circuit.now.stretches stored.now up.new.volts up.new.nets × VisitedAt circuit.now.board circuit.now.stretches stored.now volts.now up.old.volts up.new.volts i result }
 {
     let v = volts[i];
-    if signed::at_most(up.volts[i], v) {
+    if up.volts[i] <= v {
         return Stance::Back;
     }
-    if signed::at_most(up.nets[i], 0) {
+    if up.nets[i] <= 0 {
         return Stance::Waits;
     }
     up.put(circuit, stored, i, v);
@@ -110,10 +110,7 @@ fn visit_all(circuit: &Circuit, stored: &[i64; 32], volts: &[i64; 16], up: &mut 
 fn sticks(v: i64, s: i64, w: i64) -> bool
     ensures { result ≡ false → v <ℤ s → pos 0 <ℤ w }
 {
-    if signed::at_most(s, v) {
-        return false;
-    }
-    signed::at_most(w, 0)
+    v < s && w <= 0
 }
 
 // Whether every node that waits may go back as they all stand.

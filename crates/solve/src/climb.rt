@@ -25,7 +25,7 @@ fn stride_at(t: u64, v: i64, s: i64, before: i64, after: i64) -> u64
     requires { t ≤ 2 ^ 26 }
     ensures { result ≤ 2 ^ 26 }
 {
-    if signed::at_most(s, v) {
+    if s <= v {
         return t;
     }
     let was = signed::size(before);
@@ -89,7 +89,7 @@ fn further(v: i64, s: i64, t: u64) -> i64
     requires { InRange s × (t ≤ 2 ^ 26) }
     ensures { InRange result × (s ≤ℤ result) }
 {
-    if signed::at_most(s, v) {
+    if s <= v {
         return s;
     }
     Voltage::clamped(signed::plus(s, signed::whole(t)))

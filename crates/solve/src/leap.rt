@@ -27,7 +27,7 @@ fn reached(b: i64, v: i64, m: u64) -> i64
 {
     let u = along(b, v, m);
     let there = Voltage { microvolts: u };
-    if signed::at_most(u, v) {
+    if u <= v {
         if there.above_bottom() {
             return u;
         }
@@ -59,7 +59,7 @@ fn leapt(circuit: &Circuit, volts: &[i64; 16], far: &[i64; 16]) -> bool
     requires { (nodes_on circuit.now.board ≤ 15) × (driven_on circuit.now.board ≤ nodes_on circuit.now.board) }
 {
     let nodes = circuit.nodes();
-    (circuit.driven() + 1..nodes + 1).any(|i| signed::less(far[i], volts[i]))
+    (circuit.driven() + 1..nodes + 1).any(|i| far[i] < volts[i])
 }
 
 // One node at the far end. If it leapt, its net current has to be above zero there, and it is lowered by
@@ -75,10 +75,10 @@ fn land_at(
     ensures { Searching circuit.now.board circuit.now.stretches stored.now far.new.volts far.new.nets × (result ≡ true → LandedAt circuit.now.board circuit.now.stretches stored.now volts.now far.old.volts i far.new.volts) }
 {
     let u = far.volts[i];
-    if signed::at_most(volts[i], u) {
+    if volts[i] <= u {
         return true;
     }
-    if signed::at_most(far.nets[i], 0) {
+    if far.nets[i] <= 0 {
         return false;
     }
     let down = signed::minus(u, 1);

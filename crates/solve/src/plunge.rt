@@ -56,7 +56,7 @@ fn is_high(nets: &[i64; 16], i: usize) -> bool
     requires { i < 16 }
     ensures { result ≡ true → pos 0 <ℤ reading nets.now i }
 {
-    signed::less(0, nets[i])
+    0 < nets[i]
 }
 
 // Node i, whose net current was `before` at b, sinks on so, if its net current is above zero there too.

@@ -41,7 +41,7 @@ fn step(
     ensures { Searching circuit.now.board circuit.now.stretches stored.now at.new.volts at.new.nets × Fell (LowAt circuit.now.board circuit.now.stretches stored.now at.old.volts i) circuit.now.board circuit.now.stretches stored.now at.old.volts at.new.volts result }
 {
     let f = at.nets[i];
-    if signed::at_most(f, 0) {
+    if f <= 0 {
         return Ok(false);
     }
     let from = at.volts[i];

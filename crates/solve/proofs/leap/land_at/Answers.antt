@@ -1,4 +1,4 @@
-use mathlib.Core.Path.{◌≡◌, sym, ◌∙◌}
+use mathlib.Core.Path.{◌≡◌, ◌∙◌}
 use lib.IntN.{pos, ◌-ℤ◌}
 use lib.Signed.{◌<ℤ◌}
 use Rattle.units.proofs.Integers.{le_z_true, le_z_false}
@@ -10,18 +10,19 @@ use mir.Syntax.{w64}
 use mir.Val.{to_z, of_z}
 use Rattle.solve.proofs.leap.land_at.Goals as goal
 
-pub returns-then-at_most : goal.returns-then-at_most
-returns-then-at_most c =
+pub returns-then-volts-i : goal.returns-then-volts-i
+returns-then-volts-i c =
     let at-volts : to_z w64 (of_z w64 (reading c.args.volts.now c.args.i)) ≡ reading c.args.volts.now c.args.i = search rules in
     let at-far : to_z w64 (of_z w64 (reading c.args.far.now.volts c.args.i)) ≡ reading c.args.far.now.volts c.args.i = search rules in
-    (c.requires.0, λ e. stays (le_z_true _ _ (sym (rw (at-volts, at-far) at c.at_most.ensures) ∙ c.if-at_most.true)))
+    (c.requires.0, λ e. stays (le_z_true _ _ (rw (at-volts, at-far) at c.if-volts-i.true)))
 
 pub returns : goal.returns
 returns c =
     let at-far : to_z w64 (of_z w64 (reading c.args.far.now.volts c.args.i)) ≡ reading c.args.far.now.volts c.args.i = search rules in
-    let lower : to_z w64 (of_z w64 c.minus-down.result) ≡ reading c.args.far.now.volts c.args.i -ℤ pos 1 = let e : to_z w64 (of_z w64 c.minus-down.result) ≡ c.minus-down.result = search rules in e ∙ (rw at-far at c.minus-down.ensures) in
+    let at-down : to_z w64 (of_z w64 c.minus-down.result) ≡ c.minus-down.result = search rules in
+    let lower : to_z w64 (of_z w64 c.minus-down.result) ≡ reading c.args.far.now.volts c.args.i -ℤ pos 1 = at-down ∙ (rw at-far at c.minus-down.ensures) in
     let at-volts : to_z w64 (of_z w64 (reading c.args.volts.now c.args.i)) ≡ reading c.args.volts.now c.args.i = search rules in
-    let leapt : reading c.args.far.now.volts c.args.i <ℤ reading c.args.volts.now c.args.i = le_z_false _ _ (sym (rw (at-volts, at-far) at c.at_most.ensures) ∙ c.if-at_most.false) in
-    let e : to_z w64 (of_z w64 (reading c.args.far.now.nets c.args.i)) ≡ reading c.args.far.now.nets c.args.i = search rules in
-    let high : pos 0 <ℤ net 1 (network_on c.args.circuit.now.board c.args.circuit.now.stretches) (reading c.args.stored.now) (reading c.args.far.now.volts) c.args.i = le_z_false _ _ (sym (rw (e ∙ c.requires.0.netted.each c.args.i c.requires.1.1) at c.at_most-2.ensures) ∙ c.if-at_most-2.false) in
+    let at-net : to_z w64 (of_z w64 (reading c.args.far.now.nets c.args.i)) ≡ reading c.args.far.now.nets c.args.i = search rules in
+    let leapt : reading c.args.far.now.volts c.args.i <ℤ reading c.args.volts.now c.args.i = le_z_false _ _ (rw (at-volts, at-far) at c.if-volts-i.false) in
+    let high : pos 0 <ℤ net 1 (network_on c.args.circuit.now.board c.args.circuit.now.stretches) (reading c.args.stored.now) (reading c.args.far.now.volts) c.args.i = le_z_false _ _ (rw (at-net ∙ c.requires.0.netted.each c.args.i c.requires.1.1) at c.if-far-i-le0.false) in
     (c.put.ensures.0, λ t. rw (c.put.ensures.1, lower) (sinks leapt high))

@@ -27,7 +27,7 @@ lower_by-v-requires c =
 pub returns-then-not-in_range : goal.returns-then-not-in_range
 returns-then-not-in_range c =
     let at-net : to_z w64 (of_z w64 (reading c.args.at.now.nets c.args.i)) ≡ (net 1 (network_on c.args.circuit.now.board c.args.circuit.now.stretches) (reading c.args.stored.now) (reading c.args.at.now.volts) c.args.i) = let e : to_z w64 (of_z w64 (reading c.args.at.now.nets c.args.i)) ≡ reading c.args.at.now.nets c.args.i = search rules in e ∙ c.requires.0.netted.each c.args.i c.requires.1.1 in
-    let high : pos 0 <ℤ (net 1 (network_on c.args.circuit.now.board c.args.circuit.now.stretches) (reading c.args.stored.now) (reading c.args.at.now.volts) c.args.i) = le_z_false _ _ (sym (rw at-net at c.at_most.ensures) ∙ c.if-at_most.false) in
+    let high : pos 0 <ℤ (net 1 (network_on c.args.circuit.now.board c.args.circuit.now.stretches) (reading c.args.stored.now) (reading c.args.at.now.volts) c.args.i) = le_z_false _ _ (rw at-net at c.if-f-le0.false) in
     let at-node : to_z w64 (of_z w64 (reading c.args.at.now.volts c.args.i)) ≡ reading c.args.at.now.volts c.args.i = search rules in
     let there : to_z w64 (of_z w64 c.lower_by-v.result) ≡ reading c.args.at.now.volts c.args.i -ℤ pos (rounded_up (nat_abs (net 1 (network_on c.args.circuit.now.board c.args.circuit.now.stretches) (reading c.args.stored.now) (reading c.args.at.now.volts) c.args.i)) (steepest_on c.args.circuit.now.board c.args.i)) = let e : to_z w64 (of_z w64 c.lower_by-v.result) ≡ c.lower_by-v.result = search rules in e ∙ (rw (at-node, at-net, c.steepest_sum.ensures) at c.lower_by-v.ensures) in
     let h : voltage_limit < nat_abs (to_z w64 (of_z w64 c.lower_by-v.result)) = leb-false _ _ (sym c.in_range.ensures ∙ c.if-not-in_range.true) in
@@ -36,7 +36,7 @@ returns-then-not-in_range c =
 pub returns : goal.returns
 returns c =
     let at-net : to_z w64 (of_z w64 (reading c.args.at.now.nets c.args.i)) ≡ (net 1 (network_on c.args.circuit.now.board c.args.circuit.now.stretches) (reading c.args.stored.now) (reading c.args.at.now.volts) c.args.i) = let e : to_z w64 (of_z w64 (reading c.args.at.now.nets c.args.i)) ≡ reading c.args.at.now.nets c.args.i = search rules in e ∙ c.requires.0.netted.each c.args.i c.requires.1.1 in
-    let high : pos 0 <ℤ (net 1 (network_on c.args.circuit.now.board c.args.circuit.now.stretches) (reading c.args.stored.now) (reading c.args.at.now.volts) c.args.i) = le_z_false _ _ (sym (rw at-net at c.at_most.ensures) ∙ c.if-at_most.false) in
+    let high : pos 0 <ℤ (net 1 (network_on c.args.circuit.now.board c.args.circuit.now.stretches) (reading c.args.stored.now) (reading c.args.at.now.volts) c.args.i) = le_z_false _ _ (rw at-net at c.if-f-le0.false) in
     let at-node : to_z w64 (of_z w64 (reading c.args.at.now.volts c.args.i)) ≡ reading c.args.at.now.volts c.args.i = search rules in
     let there : to_z w64 (of_z w64 c.lower_by-v.result) ≡ reading c.args.at.now.volts c.args.i -ℤ pos (rounded_up (nat_abs (net 1 (network_on c.args.circuit.now.board c.args.circuit.now.stretches) (reading c.args.stored.now) (reading c.args.at.now.volts) c.args.i)) (steepest_on c.args.circuit.now.board c.args.i)) = let e : to_z w64 (of_z w64 c.lower_by-v.result) ≡ c.lower_by-v.result = search rules in e ∙ (rw (at-node, at-net, c.steepest_sum.ensures) at c.lower_by-v.ensures) in
     let inside : InRange (to_z w64 (of_z w64 c.lower_by-v.result)) = leb-true _ _ (sym c.in_range.ensures ∙ c.if-not-in_range.false) in
