@@ -1,8 +1,8 @@
 -- From an image to the first sample, and from what came of the samples to what comes back. Assumes nothing.
-use mathlib.Core.Path.{◌≡◌, refl, sym, ◌∙◌, ap, subst}
+use mathlib.Core.Path.{◌≡◌, sym, ◌∙◌, ap, subst}
 use mathlib.Core.Bool.{true, false}
 use mathlib.Core.List.{List}
-use Prim.Native.Nat.{ℕ, ◌*◌, ◌≤◌}
+use Prim.Native.Nat.{ℕ, ◌≤◌}
 use native.Mathlib.Omega.{arith}
 use lib.IntN.{ℤ}
 use lib.ListN.{length}
@@ -12,7 +12,6 @@ use Rattle.units.specs.declared.number.Number.{Number}
 use Rattle.units.specs.declared.number.Number.TheVariants as number
 use Rattle.units.proofs.Numbers.{done_only}
 use Rattle.network.specs.Network.{Network, InLimits}
-use Rattle.network.specs.Sample.{answer_of}
 use Rattle.image.specs.Conductance.{conductances_fit}
 use Rattle.image.specs.Format.{opening_of, opened}
 use Rattle.image.specs.Meaning.{network_at}
@@ -27,8 +26,7 @@ use Rattle.circuit.specs.Board.{nodes_on, driven_on, network_on, Ready}
 use Rattle.opening.specs.Opening.{board_of, stretches_of}
 use Rattle.opening.proofs.BoardIs.{network_is, ready}
 use Rattle.solve.specs.Sample.{Playable}
-use Rattle.block.specs.Block.{drive_at, StateLegal, LengthsFit, PlaysOn, state-refused, lengths-refused, sample-refused, done, Plays, image-refused, conductance-refused}
-use Rattle.block.specs.Call.{Packed}
+use Rattle.block.specs.Block.{block_limit, drive_at, StateLegal, LengthsFit, PlaysOn, state-refused, lengths-refused, sample-refused, done, image-refused, conductance-refused}
 use Rattle.block.specs.Playing.{Admits, Room, state_of, Ran, all, short}
 use Rattle.block.specs.declared.call.State.{State}
 
@@ -80,11 +78,11 @@ module _ (parts : Parts) (sound : Sound parts) (fits : conductances_fit parts pl
     legal_parts : Legal → StateLegal (network_at parts plain) (state_of x)
     legal_parts l = subst (λ (N : Network). StateLegal N (state_of x)) board_is l
 
-    pub state_no : (Legal → ⊥) → Packed On (number_of number.State * 65536) (state_of x) outputs
-    state_no not = record { number = 7; count = 0; comes = state-refused (λ l. not (subst (λ (N : Network). StateLegal N (state_of x)) (sym board_is) l)); packed = refl; small = omega arith }
+    pub state_no : (Legal → ⊥) → On (number_of number.State) 0 (state_of x) outputs
+    state_no not = state-refused (λ l. not (subst (λ (N : Network). StateLegal N (state_of x)) (sym board_is) l))
 
-    pub lengths_no : Legal → (Fit → ⊥) → Packed On (number_of number.Lengths * 65536) (state_of x) outputs
-    lengths_no legal not = record { number = 8; count = 0; comes = lengths-refused (legal_parts legal) not; packed = refl; small = omega arith }
+    pub lengths_no : Legal → (Fit → ⊥) → On (number_of number.Lengths) 0 (state_of x) outputs
+    lengths_no legal not = lengths-refused (legal_parts legal) not
 
     pub playable_first : Legal → Playable board stretches x
     playable_first legal =
@@ -94,12 +92,12 @@ module _ (parts : Parts) (sound : Sound parts) (fits : conductances_fit parts pl
     pub room_is : Fit → Room board parts.output n drives outputs
     room_is fit = record { heard = rw nodes_are sound.output_there; few = fit.few; driven = rw driven_is (omega (arith, fit.driven_enough)); room = omega (arith, fit.room) }
 
-    packed_parts : {y : List ℤ} {w : List ℕ} {answer : ℕ} → Legal → Fit → Ran (network_at parts plain) parts.output (drive_at drives parts.driven) x n outputs y w answer → Packed On answer (state_of y) w
-    packed_parts legal fit (all run) = record { number = 0; count = n; comes = done (record { legal = legal_parts legal; fit = fit }) run; packed = omega arith; small = omega (arith, fit.few) }
-    packed_parts legal fit (short j r h run gives some) = record { number = number_of (answer_of r); count = j; comes = sample-refused {r = r} (record { legal = legal_parts legal; fit = fit }) h (record { run = run; gives = gives; some = some }); packed = refl; small = omega (arith, fit.few) }
+    played_parts : {y : List ℤ} {w : List ℕ} {k count : ℕ} → Legal → Fit → Ran (network_at parts plain) parts.output (drive_at drives parts.driven) x n outputs y w k count → On k count (state_of y) w × (count ≤ block_limit)
+    played_parts legal fit (all run) = (done (record { legal = legal_parts legal; fit = fit }) run, fit.few)
+    played_parts legal fit (short j r h run gives some) = (sample-refused {r = r} (record { legal = legal_parts legal; fit = fit }) h (record { run = run; gives = gives; some = some }), omega (arith, fit.few))
 
-    pub ran_packed : {y : List ℤ} {w : List ℕ} {answer : ℕ} → Legal → Fit → Ran (network_on board stretches) parts.output (drive_at drives (driven_on board)) x n outputs y w answer → Packed On answer (state_of y) w
-    ran_packed {y = y} {w = w} {answer = answer} legal fit ran = packed_parts legal fit (moved (network_on board stretches) (driven_on board) board_is driven_is ran)
+    pub ran_plays : {y : List ℤ} {w : List ℕ} {k count : ℕ} → Legal → Fit → Ran (network_on board stretches) parts.output (drive_at drives (driven_on board)) x n outputs y w k count → On k count (state_of y) w × (count ≤ block_limit)
+    ran_plays {y = y} {w = w} {k = k} {count = count} legal fit ran = played_parts legal fit (moved (network_on board stretches) (driven_on board) board_is driven_is ran)
       where
-        moved : (N : Network) (driven : ℕ) → N ≡ network_at parts plain → driven ≡ parts.driven → Ran N parts.output (drive_at drives driven) x n outputs y w answer → Ran (network_at parts plain) parts.output (drive_at drives parts.driven) x n outputs y w answer
+        moved : (N : Network) (driven : ℕ) → N ≡ network_at parts plain → driven ≡ parts.driven → Ran N parts.output (drive_at drives driven) x n outputs y w k count → Ran (network_at parts plain) parts.output (drive_at drives parts.driven) x n outputs y w k count
         moved N driven e₁ e₂ ran = rw (e₁, e₂) at ran

@@ -72,7 +72,7 @@ module _ {N : Network} {output : ℕ} {d : ℕ → ℕ → ℤ} {x₀ : List ℤ
   run_more {v = v} q = rw add-one (sample (reading v) run q.gives q.long q.others)
 
   -- .. or the end of the run
-  pub run_short : {r : Number} {n : ℕ} → j < n → Refused N (d j) x y r → Ran N output d x₀ n outputs y o (number_of r * 65536 + j)
+  pub run_short : {r : Number} {n : ℕ} → j < n → Refused N (d j) x y r → Ran N output d x₀ n outputs y o (number_of r) j
   run_short h q = rw (q.is, q.left) (short j q.outcome h run q.gives q.some)
 
 -- the drives of each of n samples are there

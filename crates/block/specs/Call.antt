@@ -1,5 +1,5 @@
 -- The block as a host written in C calls it: a state as bytes, one packed number back. Assumes nothing.
-use Rattle.std.specs.Prelude.{◌≡◌, cond, List, [], ℕ, zero, suc, ◌+◌, ◌*◌, ◌<◌, eqb, ℤ, length}
+use Rattle.std.specs.Prelude.{◌≡◌, cond, List, [], ℕ, zero, suc, ◌+◌, ◌*◌, eqb, ℤ, length}
 use Rattle.std.specs.Int.{w64}
 use Rattle.std.proofs.Common.{to_z, of_z}
 use Rattle.units.specs.Bytes.{little_endian, written}
@@ -25,14 +25,6 @@ bytes_with bytes x (suc n) = written 8 (bytes_with bytes x n) (8 * n) (of_z w64 
 abbrev pub bytes_after : List ℕ → State → ℕ → List ℕ
 bytes_after bytes x zero = bytes
 bytes_after bytes x (suc count) = bytes_with bytes x.currents places
-
--- number and count in one answer, where `Comes` says what comes back
-pub record Packed (Comes : ℕ → ℕ → State → List ℕ → Type 0) (answer : ℕ) (y : State) (o : List ℕ) : Type 0 where
-  pub number : ℕ
-  pub count : ℕ
-  pub comes : Comes number count y o
-  pub packed : answer ≡ number * 65536 + count
-  pub small : count < 65536
 
 -- what the call answers and leaves
 pub record Called (image bytes : List ℕ) (n : ℕ) (drives outputs : List ℕ) (answer : ℕ) (bytes' outputs' : List ℕ) : Type 0 where

@@ -33,15 +33,15 @@ pub record Room (board : List ℕ) (output n : ℕ) (drives outputs : List ℕ) 
 abbrev pub state_of : List ℤ → State
 state_of x = record { currents = x }
 
--- what came of n samples: all were accepted, or one was refused; the answer is number × 65536 + count
-pub data Ran (N : Network) (output : ℕ) (d : ℕ → ℕ → ℤ) (x : List ℤ) (n : ℕ) (outputs : List ℕ) (y : List ℤ) (o : List ℕ) : ℕ → Type 0 where
+-- what came of n samples, by the number and the count: all were accepted, or one was refused
+pub data Ran (N : Network) (output : ℕ) (d : ℕ → ℕ → ℤ) (x : List ℤ) (n : ℕ) (outputs : List ℕ) (y : List ℤ) (o : List ℕ) : ℕ → ℕ → Type 0 where
   all :
       Run (λ (j : ℕ). N) output d (state_of x) outputs n (state_of y) o →
-      Ran N output d x n outputs y o n
+      Ran N output d x n outputs y o 0 n
   short :
       (j : ℕ) (r : Outcome) →
       j < n →
       Run (λ (j : ℕ). N) output d (state_of x) outputs j (state_of y) o →
       Gives N (reading y) (d j) r →
       0 < number_of (answer_of r) →
-      Ran N output d x n outputs y o (number_of (answer_of r) * 65536 + j)
+      Ran N output d x n outputs y o (number_of (answer_of r)) j

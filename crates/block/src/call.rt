@@ -3,6 +3,7 @@ ghost use Rattle.std.specs.Prelude.{◌≡◌};
 ghost use Rattle.block.specs.Block.{Plays};
 ghost use Rattle.block.specs.Call.{Called};
 
+use crate::ending::Ending;
 use crate::{play, state};
 use units::number::Number;
 
@@ -36,12 +37,11 @@ pub fn block(image: &[u8], state: State, n: u64, drives: &[u8], outputs: &mut [u
     };
     let given = state.currents;
     let mut x = state::known(given);
-    let answer = play::play(parts, n, drives, &mut x, outputs);
-    let after = State { currents: x };
+    let ending = play::play(parts, n, drives, &mut x, outputs);
     Played {
-        number: answer / 65536,
-        count: answer % 65536,
-        state: after,
+        number: u64::from(ending.number),
+        count: ending.count,
+        state: State { currents: x },
     }
 }
 
@@ -58,15 +58,15 @@ pub fn krtovalin_block(
 {
     let parts = match play::admit(image) {
         Ok(parts) => parts,
-        Err(number) => return play::refused(number),
+        Err(number) => return Ending::refused(number).packed(),
     };
     if state.len() != 256 {
-        return play::refused(Number::State);
+        return Ending::refused(Number::State).packed();
     }
     let mut x = state::read(state);
-    let answer = play::play(parts, n, drives, &mut x, outputs);
-    if answer % 65536 != 0 {
+    let ending = play::play(parts, n, drives, &mut x, outputs);
+    if ending.count != 0 {
         state::write(state, &x);
     }
-    answer
+    ending.packed()
 }

@@ -3,6 +3,7 @@
 
 mod call;
 mod drives;
+mod ending;
 mod lengths;
 mod play;
 mod run;

@@ -1,13 +1,13 @@
 // A block: an image is admitted, the state and the lengths are tested, and then the samples are played.
-ghost use Rattle.std.specs.Prelude.{◌≡◌, true, ℕ, ◌*◌, length};
+ghost use Rattle.std.specs.Prelude.{◌≡◌, true, ℕ, ◌≤◌, length};
 ghost use Rattle.units.specs.Number.{number_of};
 ghost use Rattle.image.specs.Conductance.{conductances_fit};
 ghost use Rattle.image.specs.Setting.{plain};
 ghost use Rattle.image.specs.Sound.{Sound};
-ghost use Rattle.block.specs.Block.{PlaysOn};
-ghost use Rattle.block.specs.Call.{Packed};
+ghost use Rattle.block.specs.Block.{PlaysOn, block_limit};
 ghost use Rattle.block.specs.Playing.{Admits, state_of};
 
+use crate::ending::Ending;
 use crate::{lengths, run, state};
 use image::Parts;
 use units::number::Number;
@@ -23,25 +23,18 @@ pub fn admit(image: &[u8]) -> Result<Parts, Number>
     Ok(parts)
 }
 
-// An answer with no sample done.
-pub fn refused(answer: Number) -> u64
-    ensures { result ≡ number_of answer * 65536 }
-{
-    u64::from(answer) * 65536
-}
-
-// A block of a circuit that can be played: its number times 65,536, and the count of the samples that
-// were accepted.
-pub fn play(parts: Parts, n: u64, drives: &[u8], x: &mut [i64; 32], outputs: &mut [u8]) -> u64
+// A block of a circuit that can be played.
+pub fn play(parts: Parts, n: u64, drives: &[u8], x: &mut [i64; 32], outputs: &mut [u8]) -> Ending
     requires { Sound parts × (conductances_fit parts plain ≡ true) × (length x.old ≡ 32) }
-    ensures { Packed (PlaysOn parts (state_of x.old) n drives.now outputs.old) result (state_of x.new) outputs.new }
+    ensures plays { PlaysOn parts (state_of x.old) n drives.now outputs.old (number_of result.number) result.count (state_of x.new) outputs.new }
+    ensures few { result.count ≤ block_limit }
 {
     let circuit = opening::circuit(parts);
     if !state::legal(&circuit, x) {
-        return refused(Number::State);
+        return Ending::refused(Number::State);
     }
     if !lengths::fit(parts.driven as usize, n, drives.len(), outputs.len()) {
-        return refused(Number::Lengths);
+        return Ending::refused(Number::Lengths);
     }
     let mut volts = [0i64; 16];
     run::run(

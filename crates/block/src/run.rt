@@ -1,5 +1,6 @@
 // The samples of a block, one after the other, up to the first that is refused.
 ghost use Rattle.std.specs.Prelude.{◌≡◌, length};
+ghost use Rattle.units.specs.Number.{number_of};
 ghost use Rattle.circuit.specs.Board.{driven_on, network_on};
 ghost use Rattle.guess.specs.Proposal.{Guessable};
 ghost use Rattle.solve.specs.Sample.{Playable, Sampled};
@@ -8,6 +9,7 @@ ghost use Rattle.block.specs.Drives.{Begun};
 ghost use Rattle.block.specs.Playing.{Driven, Room, Ran};
 
 use crate::drives;
+use crate::ending::Ending;
 use circuit::Circuit;
 use guess::Memory;
 use solve::sample;
@@ -47,8 +49,7 @@ fn next(
     sample::sample(circuit, volts, x)
 }
 
-// All samples, each from the voltages of the one before it and what the guess kept. What comes back is the
-// number times 65,536 and the count of the accepted ones.
+// All samples, each from the voltages of the one before it and what the guess kept.
 pub fn run(
     circuit: &Circuit,
     output: usize,
@@ -57,17 +58,24 @@ pub fn run(
     x: &mut [i64; 32],
     volts: &mut [i64; 16],
     outputs: &mut [u8],
-) -> u64
+) -> Ending
     requires { Playable circuit.now.board circuit.now.stretches x.old × Room circuit.now.board output n drives.now outputs.old × (length volts.old ≡ 16) }
-    ensures { Ran (network_on circuit.now.board circuit.now.stretches) output (drive_at drives.now (driven_on circuit.now.board)) x.old n outputs.old x.new outputs.new result }
+    ensures { Ran (network_on circuit.now.board circuit.now.stretches) output (drive_at drives.now (driven_on circuit.now.board)) x.old n outputs.old x.new outputs.new (number_of result.number) result.count }
 {
     let mut memory = Memory::new();
     for j in 0..n {
-        let number = u64::from(next(circuit, drives, j, x, volts, &mut memory));
-        if number != 0 {
-            return number * 65536 + j as u64;
+        match next(circuit, drives, j, x, volts, &mut memory) {
+            Number::Done => bytes::put_signed::<4>(outputs, 4 * j, volts[output]),
+            number => {
+                return Ending {
+                    number,
+                    count: j as u64,
+                };
+            }
         }
-        bytes::put_signed::<4>(outputs, 4 * j, volts[output]);
     }
-    n as u64
+    Ending {
+        number: Number::Done,
+        count: n as u64,
+    }
 }

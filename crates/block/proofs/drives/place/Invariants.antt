@@ -1,4 +1,4 @@
-use Prim.Native.Nat.{◌-◌, ◌≤◌}
+use Prim.Native.Nat.{◌≤◌}
 use Rattle.block.specs.Drives.{Placed}
 use Rattle.block.proofs.drives.place.Given as goal
 

@@ -1,6 +1,7 @@
 use mathlib.Core.Path.{refl}
+use native.Mathlib.Omega.{arith}
 use Rattle.block.proofs.StateLaws.{if_passed, if_failed}
-use Rattle.block.proofs.PlayLaws.{state_no, lengths_no, playable_first, room_is, ran_packed}
+use Rattle.block.proofs.PlayLaws.{state_no, lengths_no, playable_first, room_is, ran_plays}
 use Rattle.block.proofs.play.play.Goals as goal
 
 pub returns-then-not-legal : goal.returns-then-not-legal
@@ -8,7 +9,7 @@ returns-then-not-legal c =
     let a = c.args in
     let o = c.circuit-circuit in
     let l = c.legal in
-    rw c.refused.ensures (state_no a.parts c.requires.0 c.requires.1 o.result.board o.result.stretches o.ensures.stretches o.ensures.board a.x.now a.n a.drives.now a.outputs.now (if_failed l.result (l.ensures o.result.stretches) (c.if-not-legal.true)))
+    rw (c.refused.ensures.0, c.refused.ensures.1) record { plays = state_no a.parts c.requires.0 c.requires.1 o.result.board o.result.stretches o.ensures.stretches o.ensures.board a.x.now a.n a.drives.now a.outputs.now (if_failed l.result (l.ensures o.result.stretches) (c.if-not-legal.true)); few = omega arith }
 
 pub returns-then-not-fit : goal.returns-then-not-fit
 returns-then-not-fit c =
@@ -17,7 +18,7 @@ returns-then-not-fit c =
     let l = c.legal in
     let legal = if_passed l.result (l.ensures o.result.stretches) (c.if-not-legal.false) in
     let f = c.fit in
-    rw c.refused-then-not-fit.ensures (lengths_no a.parts c.requires.0 c.requires.1 o.result.board o.result.stretches o.ensures.stretches o.ensures.board a.x.now a.n a.drives.now a.outputs.now legal (if_failed f.result f.ensures (c.if-not-fit.true)))
+    rw (c.refused-then-not-fit.ensures.0, c.refused-then-not-fit.ensures.1) record { plays = lengths_no a.parts c.requires.0 c.requires.1 o.result.board o.result.stretches o.ensures.stretches o.ensures.board a.x.now a.n a.drives.now a.outputs.now legal (if_failed f.result f.ensures (c.if-not-fit.true)); few = omega arith }
 
 pub run-requires : goal.run-requires
 run-requires c =
@@ -40,4 +41,5 @@ returns c =
     let legal = if_passed l.result (l.ensures o.result.stretches) (c.if-not-legal.false) in
     let f = c.fit in
     let fit = if_passed f.result f.ensures (c.if-not-fit.false) in
-    ran_packed a.parts c.requires.0 c.requires.1 o.result.board o.result.stretches o.ensures.stretches o.ensures.board a.x.now a.n a.drives.now a.outputs.now legal fit c.run.ensures
+    let p = ran_plays a.parts c.requires.0 c.requires.1 o.result.board o.result.stretches o.ensures.stretches o.ensures.board a.x.now a.n a.drives.now a.outputs.now legal fit c.run.ensures in
+    record { plays = p.0; few = p.1 }

@@ -1,4 +1,4 @@
-use mathlib.Core.Path.{◌≡◌, sym, ◌∙◌}
+use mathlib.Core.Path.{◌≡◌, ap}
 use native.Mathlib.Omega.{arith}
 use mir.Syntax.{w64}
 use mir.Val.{to_z, of_z}
@@ -6,6 +6,7 @@ use Rattle.network.specs.Network.{reading}
 use Rattle.block.specs.Block.{start}
 use Rattle.units.specs.Number.{number_of}
 use Rattle.block.specs.Playing.{all}
+use Rattle.units.proofs.Numbers.{done_only}
 use Rattle.block.proofs.SampleLaws.{playable_on, passed_is, refused_is, run_more, run_short}
 use borrow.Author.Rules.{rules}
 use Rattle.block.proofs.run.run.Goals as goal
@@ -14,18 +15,13 @@ pub loop-j-init : goal.loop-j-init
 loop-j-init c =
     (omega arith, start, c.requires.0, c.requires.2)
 
--- the number of a sample that was refused, and of one that was not
-some : (c : goal.Then-number-ne0) → number_of c.next.result ≡ 0 → ⊥
-some c e = c.if-number-ne0.true (c.from-number.ensures ∙ e)
-
-pub returns-then-number-ne0 : goal.returns-then-number-ne0
-returns-then-number-ne0 c =
-    let q = refused_is c.next.ensures.0 (some c) in
-    rw c.from-number.ensures (run_short c.loop-j.invariant.1 c.loop-j-test.true q)
+pub returns-in_default : goal.returns-in_default
+returns-in_default c =
+    run_short c.loop-j.invariant.1 c.loop-j-test.true (refused_is c.next.ensures.0 (λ e. c.in_default.not-Done (done_only _ e)))
 
 pub loop-j-preserved : goal.loop-j-preserved
 loop-j-preserved c =
-    let none : number_of c.next.result ≡ 0 = sym c.from-number.ensures ∙ c.if-number-ne0.false in
+    let none : number_of c.next.result ≡ 0 = ap number_of c.in-Done.is in
     let l = c.loop-j in
     let v = c.next.new.volts in
     let z = reading v c.args.output in

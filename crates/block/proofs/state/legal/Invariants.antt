@@ -1,4 +1,4 @@
-use Prim.Native.Nat.{◌-◌, ◌≤◌}
+use Prim.Native.Nat.{◌≤◌}
 use Rattle.block.proofs.StateLaws.{LegalTo}
 use Rattle.block.proofs.state.legal.Given as goal
 

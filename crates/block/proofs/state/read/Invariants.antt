@@ -1,4 +1,4 @@
-use Prim.Native.Nat.{◌-◌, ◌≤◌}
+use Prim.Native.Nat.{◌≤◌}
 use Rattle.block.proofs.StateLaws.{ReadTo}
 use Rattle.block.proofs.state.read.Given as goal
 
