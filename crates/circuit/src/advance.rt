@@ -8,14 +8,14 @@ ghost use Rattle.circuit.specs.Advance.{Twice, next_on, Advancing};
 
 use crate::Circuit;
 use network::kind::Kind;
-use units::signed;
+
 // The limit of a stored current, in femtoamperes.
 pub const LIMIT: u64 = 144115188075855872;
 // Whether a stored current is within its limit.
 pub fn is_kept(x: i64) -> bool
     ensures { result ≡ within stored_limit x }
 {
-    signed::size(x) <= LIMIT
+    x.unsigned_abs() <= LIMIT
 }
 // A stored current would be beyond its limit.
 #[derive(Clone, Copy)]
@@ -27,10 +27,7 @@ impl Circuit {
         requires { Laid self.now.board self.now.stretches × Ranged self.now.board volts.now × (j < count_on self.now.board) }
         ensures { Twice self.now.board volts.now j result }
     {
-        signed::times(
-            signed::whole(2 * self.plain_conductance(j)),
-            self.across(volts, j),
-        )
+        (2 * self.plain_conductance(j)) as i64 * self.across(volts, j)
     }
 
     // The stored current of element j after a sample, x being the one before it.
@@ -39,8 +36,8 @@ impl Circuit {
         ensures { result ≡ next_on self.now.board self.now.stretches volts.now j x }
     {
         match Kind::of(self.kind(j)) {
-            Some(Kind::Capacitor) => signed::minus(self.twice(volts, j), x),
-            Some(Kind::Inductor) => signed::minus(x, self.twice(volts, j)),
+            Some(Kind::Capacitor) => self.twice(volts, j) - x,
+            Some(Kind::Inductor) => x - self.twice(volts, j),
             Some(Kind::Resistor) => 0,
             Some(Kind::Diode) => 0,
             None => 0,

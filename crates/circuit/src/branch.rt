@@ -7,7 +7,7 @@ ghost use Rattle.circuit.specs.Board.{count_on, first_on, breakpoints_on, plain_
 use crate::Circuit;
 use network::kind;
 use stretch::curve::Curve;
-use units::signed;
+
 // Which end of an element a node is.
 #[derive(Clone, Copy)]
 pub enum End {
@@ -53,7 +53,7 @@ impl Circuit {
         if g == 0 {
             return self.curve(j).current(v);
         }
-        signed::minus(signed::times(signed::whole(g), v), x)
+        g as i64 * v - x
     }
 
     // The voltage of element j: that of its end p less that of its end q.
@@ -63,7 +63,7 @@ impl Circuit {
     {
         let p = self.end_p(j);
         let q = self.end_q(j);
-        signed::minus(volts[p], volts[q])
+        volts[p] - volts[q]
     }
 
     // The current of element j, from its end p to its end q, at these voltages.
@@ -83,10 +83,10 @@ impl Circuit {
         let j = end / 2;
         if end % 2 == 0 {
             let q = self.end_q(j);
-            return self.carried(j, stored[j], signed::minus(own, volts[q]));
+            return self.carried(j, stored[j], own - volts[q]);
         }
         let p = self.end_p(j);
-        signed::minus(0, self.carried(j, stored[j], signed::minus(volts[p], own)))
+        -self.carried(j, stored[j], volts[p] - own)
     }
 
     // What element j carries more at the voltage `new` than at `old`, whatever it stores.
@@ -98,7 +98,7 @@ impl Circuit {
         if g == 0 {
             return self.curve(j).change(old, new);
         }
-        signed::times(signed::whole(g), signed::minus(new, old))
+        g as i64 * (new - old)
     }
 
     // What leaves the node at an end more by the end's element, once the node stands at v. The node's own voltage
@@ -118,13 +118,13 @@ impl Circuit {
     {
         let g = self.conductance(end / 2);
         if 0 < g {
-            return signed::times(signed::whole(g), signed::minus(v, own));
+            return g as i64 * (v - own);
         }
         let at = volts[other];
         if end % 2 == 0 {
-            return self.gained(end / 2, signed::minus(own, at), signed::minus(v, at));
+            return self.gained(end / 2, own - at, v - at);
         }
-        self.gained(end / 2, signed::minus(at, v), signed::minus(at, own))
+        self.gained(end / 2, at - v, at - own)
     }
 
     // The node at the other end of an end's element.

@@ -5,7 +5,6 @@ ghost use Rattle.network.specs.Network.{net, held, steepest, reading};
 ghost use Rattle.circuit.specs.Board.{nodes_on, network_on, held_from, other_on, Laid, Evaluable};
 
 use crate::Circuit;
-use units::signed;
 
 impl Circuit {
     // The sum of all currents that leave the node: the leak's, and then element by element.
@@ -14,9 +13,9 @@ impl Circuit {
         ensures { result ≡ net 1 (network_on self.now.board self.now.stretches) (reading stored.now) (reading volts.now) node }
     {
         let own = volts[node];
-        let mut sum = signed::times(signed::whole(self.leak()), own);
+        let mut sum = self.leak() as i64 * own;
         for k in self.start(node)..self.start(node + 1) {
-            sum = signed::plus(sum, self.leaving(stored, volts, own, self.end(k)));
+            sum += self.leaving(stored, volts, own, self.end(k));
         }
         sum
     }

@@ -1,5 +1,5 @@
 -- How large a signed number, a sum or a quotient can be. Assumes nothing.
-use Rattle.std.proofs.Common.{◌≡◌, ℕ, zero, suc, ◌+◌, ◌-◌, ◌*◌, ◌/◌, ◌^◌, ◌<◌, ◌≤◌, ℤ, pos, negsuc, ◌+ℤ◌, ◌-ℤ◌, ◌*ℤ◌, neg_ℤ, nat_abs, SFits, w64, refl, ap, ⊎_elim, le_refl, suc-mul, mul-add, add-one, arith}
+use Rattle.std.proofs.Common.{◌≡◌, ℕ, zero, suc, ◌+◌, ◌-◌, ◌*◌, ◌/◌, ◌^◌, ◌<◌, ◌≤◌, ℤ, pos, negsuc, ◌+ℤ◌, ◌-ℤ◌, ◌*ℤ◌, neg_ℤ, nat_abs, SFits, w64, to_z, of_z, to_z-of_z, refl, ap, ⊎_elim, le_refl, suc-mul, mul-add, add-one, arith}
 use native.Mathlib.Nat.{mul-div-le, lt-mul-div-succ}
 use Rattle.units.specs.Integer.{up, dn, sum, total, rounded_up}
 use Rattle.units.proofs.Integers.{signs, add_law, sub_law, abs_law, one_sided, decide_n}
@@ -127,3 +127,16 @@ rounded_up_law n s p =
 pub fits_signed : (z : ℤ) → nat_abs z < 2 ^ 63 → SFits w64 z
 fits_signed (pos n) h = record { sfits = omega arith }
 fits_signed (negsuc n) h = record { sfits = omega arith }
+
+pub plus_fits : (a b : ℤ) → nat_abs a + nat_abs b < 2 ^ 63 → SFits w64 (a +ℤ b)
+plus_fits a b h = fits_signed (a +ℤ b) (omega (arith, h, abs_add a b))
+
+pub minus_fits : (a b : ℤ) → nat_abs a + nat_abs b < 2 ^ 63 → SFits w64 (a -ℤ b)
+minus_fits a b h = fits_signed (a -ℤ b) (omega (arith, h, abs_sub a b))
+
+pub times_fits : (a b : ℤ) → nat_abs a * nat_abs b < 2 ^ 63 → SFits w64 (a *ℤ b)
+times_fits a b h = fits_signed (a *ℤ b) (omega (arith, h, abs_mul a b))
+
+-- a difference as the code has it, of numbers that are known
+pub minus_is : (p q a b : ℤ) → p ≡ a → q ≡ b → nat_abs a + nat_abs b < 2 ^ 63 → to_z w64 (of_z w64 (p -ℤ q)) ≡ a -ℤ b
+minus_is p q a b e f h = rw (e, f) (to_z-of_z (minus_fits a b h))

@@ -1,13 +1,6 @@
-use mathlib.Core.Path.{◌≡◌, sym, ◌∙◌, ap}
-use mathlib.Core.Bool.{true, false}
-use Prim.Native.Nat.{◌≤◌}
-use native.Mathlib.Omega.{arith}
-use lib.IntN.{pos, ◌*ℤ◌}
-use mir.Syntax.{w64}
-use mir.Val.{to_z, of_z}
-use mir.Facts.{to_z-of_z}
-use borrow.Author.Rules.{rules}
-use Rattle.units.proofs.Sizes.{abs_mul}
+use Rattle.std.proofs.Common.{◌≡◌, true, false, ◌≤◌, ◌∙◌, sym, ap, pos, ◌*ℤ◌, arith, rules, w64, to_z, of_z, to_z-of_z}
+use Rattle.std.proofs.lemmas.Int.{to_z_pos}
+use Rattle.units.proofs.Sizes.{abs_mul, fits_signed, minus_fits}
 use Rattle.network.specs.Network.{conductance_limit}
 use Rattle.network.specs.Kind.{has_curve}
 use Rattle.network.proofs.Ranges.{product_fits}
@@ -27,34 +20,31 @@ returns-then-g-eq0 c =
     let is = rw (c.curve.ensures.0, c.curve.ensures.1, c.curve.ensures.2, to_z-of_z c.ranges.v) at c.current.ensures in
     e ∙ is ∙ curve_current_lem c.args.self.now.board c.args.self.now.stretches c.args.j curved c.args.x c.args.v
 
-pub whole-requires : goal.whole-requires
-whole-requires c =
-    let straight : has_curve (kind_on c.args.self.now.board c.args.j) ≡ false = straight_told _ _ c.requires.0 c.args.j c.requires.1 (λ z. c.if-g-eq0.false (c.conductance-g.ensures ∙ z)) in
-    let small : conductance_on c.args.self.now.board c.args.j ≤ conductance_limit = conductance_fits_lem _ _ c.requires.0 c.args.j c.requires.1 straight in
-    omega (arith, c.conductance-g.ensures, small)
+-- an element that is told no curve has a conductance
+straight : (c : goal.Else-g-eq0) → has_curve (kind_on c.args.self.now.board c.args.j) ≡ false
+straight c = straight_told _ _ c.requires.0 c.args.j c.requires.1 (λ z. c.if-g-eq0.false (c.conductance-g.ensures ∙ z))
 
-pub times-requires : goal.times-requires
-times-requires c =
-    let straight : has_curve (kind_on c.args.self.now.board c.args.j) ≡ false = straight_told _ _ c.requires.0 c.args.j c.requires.1 (λ z. c.if-g-eq0.false (c.conductance-g.ensures ∙ z)) in
-    let small : conductance_on c.args.self.now.board c.args.j ≤ conductance_limit = conductance_fits_lem _ _ c.requires.0 c.args.j c.requires.1 straight in
-    let at-conductance : to_z w64 (of_z w64 c.whole.result) ≡ pos (conductance_on c.args.self.now.board c.args.j) = let e : to_z w64 (of_z w64 c.whole.result) ≡ c.whole.result = search rules in e ∙ c.whole.ensures ∙ ap pos c.conductance-g.ensures in
-    let g = conductance_on c.args.self.now.board c.args.j in
-    rw (at-conductance, to_z-of_z c.ranges.v) (omega (arith, abs_mul (pos g) c.args.v, product_fits g c.args.v small c.requires.3))
+small : (c : goal.Else-g-eq0) → conductance_on c.args.self.now.board c.args.j ≤ conductance_limit
+small c = conductance_fits_lem _ _ c.requires.0 c.args.j c.requires.1 (straight c)
 
-pub minus-requires : goal.minus-requires
-minus-requires c =
-    let straight : has_curve (kind_on c.args.self.now.board c.args.j) ≡ false = straight_told _ _ c.requires.0 c.args.j c.requires.1 (λ z. c.if-g-eq0.false (c.conductance-g.ensures ∙ z)) in
-    let small : conductance_on c.args.self.now.board c.args.j ≤ conductance_limit = conductance_fits_lem _ _ c.requires.0 c.args.j c.requires.1 straight in
-    let at-conductance : to_z w64 (of_z w64 c.whole.result) ≡ pos (conductance_on c.args.self.now.board c.args.j) = let e : to_z w64 (of_z w64 c.whole.result) ≡ c.whole.result = search rules in e ∙ c.whole.ensures ∙ ap pos c.conductance-g.ensures in
-    let at-product : to_z w64 (of_z w64 c.times.result) ≡ pos (conductance_on c.args.self.now.board c.args.j) *ℤ c.args.v = let e : to_z w64 (of_z w64 c.times.result) ≡ c.times.result = search rules in e ∙ (rw (at-conductance, to_z-of_z c.ranges.v) at c.times.ensures) in
+pub overflow_cast-result : goal.overflow_cast-result
+overflow_cast-result c = record { sfits = omega (arith, c.conductance-g.ensures, small c) }
+
+conductance_is : (c : goal.Else-g-eq0) → to_z w64 c.conductance-g.result ≡ pos (conductance_on c.args.self.now.board c.args.j)
+conductance_is c = to_z_pos w64 _ (overflow_cast-result c).sfits ∙ ap pos c.conductance-g.ensures
+
+pub overflow_mul-result : goal.overflow_mul-result
+overflow_mul-result c =
     let g = conductance_on c.args.self.now.board c.args.j in
-    rw (at-product, to_z-of_z c.ranges.x) (omega (arith, c.requires.2, product_fits g c.args.v small c.requires.3))
+    rw (conductance_is c, to_z-of_z c.ranges.v) (fits_signed (pos g *ℤ c.args.v) (omega (arith, abs_mul (pos g) c.args.v, product_fits g c.args.v (small c) c.requires.3)))
+
+pub overflow_sub-result : goal.overflow_sub-result
+overflow_sub-result c =
+    let g = conductance_on c.args.self.now.board c.args.j in
+    rw (to_z-of_z (overflow_mul-result c), conductance_is c, to_z-of_z c.ranges.v, to_z-of_z c.ranges.x)
+    (minus_fits (pos g *ℤ c.args.v) c.args.x (omega (arith, abs_mul (pos g) c.args.v, c.requires.2, product_fits g c.args.v (small c) c.requires.3)))
 
 pub returns : goal.returns
 returns c =
-    let straight : has_curve (kind_on c.args.self.now.board c.args.j) ≡ false = straight_told _ _ c.requires.0 c.args.j c.requires.1 (λ z. c.if-g-eq0.false (c.conductance-g.ensures ∙ z)) in
-    let at-conductance : to_z w64 (of_z w64 c.whole.result) ≡ pos (conductance_on c.args.self.now.board c.args.j) = let e : to_z w64 (of_z w64 c.whole.result) ≡ c.whole.result = search rules in e ∙ c.whole.ensures ∙ ap pos c.conductance-g.ensures in
-    let at-product : to_z w64 (of_z w64 c.times.result) ≡ pos (conductance_on c.args.self.now.board c.args.j) *ℤ c.args.v = let e : to_z w64 (of_z w64 c.times.result) ≡ c.times.result = search rules in e ∙ (rw (at-conductance, to_z-of_z c.ranges.v) at c.times.ensures) in
-    let e : to_z w64 (of_z w64 c.minus.result) ≡ c.minus.result = search rules in
-    let is = rw (at-product, to_z-of_z c.ranges.x) at c.minus.ensures in
-    e ∙ is ∙ conductance_current c.args.self.now.board c.args.self.now.stretches c.args.j straight c.args.x c.args.v
+    to_z-of_z (overflow_sub-result c)
+    ∙ rw (to_z-of_z (overflow_mul-result c), conductance_is c, to_z-of_z c.ranges.v, to_z-of_z c.ranges.x) (conductance_current c.args.self.now.board c.args.self.now.stretches c.args.j (straight c) c.args.x c.args.v)

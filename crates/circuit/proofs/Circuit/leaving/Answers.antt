@@ -1,14 +1,9 @@
-use mathlib.Core.Path.{◌≡◌, ◌∙◌, ap}
-use Prim.Native.Nat.{◌/◌}
-use native.Mathlib.Omega.{arith}
+use Rattle.std.proofs.Common.{◌≡◌, ◌/◌, ◌∙◌, pos, arith, rules, w64, to_z, of_z, to_z-of_z}
 use lib.IntN.{+ℤ_idl}
-use mir.Syntax.{w64}
-use mir.Val.{to_z, of_z}
-use mir.Facts.{to_z-of_z}
-use borrow.Author.Rules.{rules}
 use borrow.Author.Tests.{eq-eqb, ne_eqb}
+use Rattle.units.proofs.Sizes.{minus_fits}
 use Rattle.network.specs.Network.{reading}
-use Rattle.circuit.specs.Board.{p_on, q_on, across_on, flow_on}
+use Rattle.circuit.specs.Board.{p_on, q_on, flow_on}
 use Rattle.circuit.proofs.BoardLaws.{few_nodes, p_node, q_node, across_fits, flow_fits}
 use Rattle.circuit.proofs.Circuit.leaving.Goals as goal
 
@@ -18,29 +13,30 @@ offset_bounds-volts-q c = record { fits = omega (arith, c.end_q-q.ensures, q_nod
 pub bounds-volts-q : goal.bounds-volts-q
 bounds-volts-q c = omega (arith, c.end_q-q.ensures, q_node _ _ c.requires.0.ready.laid (c.args.end / 2) c.requires.1, few_nodes _ _ c.requires.0.ready.laid)
 
-pub minus-requires : goal.minus-requires
-minus-requires c =
-    let at_q_lem : to_z w64 (of_z w64 (reading c.args.volts.now c.end_q-q.result)) ≡ reading c.args.volts.now (q_on c.args.self.now.board (c.args.end / 2)) = let z = reading c.args.volts.now c.end_q-q.result in let e : to_z w64 (of_z w64 z) ≡ z = search rules in e ∙ ap (reading c.args.volts.now) c.end_q-q.ensures in
-    let own-p : c.args.own ≡ reading c.args.volts.now (p_on c.args.self.now.board (c.args.end / 2)) = rw (eq-eqb _ _ c.if-end-eq0.true) at c.requires.2 in
+pub overflow_sub-own : goal.overflow_sub-own
+overflow_sub-own c =
     let laid = c.requires.0.ready.laid in
-    rw (to_z-of_z c.ranges.own, at_q_lem, own-p) (omega (arith, c.requires.0.ranged _ (p_node _ _ laid (c.args.end / 2) c.requires.1), c.requires.0.ranged _ (q_node _ _ laid (c.args.end / 2) c.requires.1)))
-
--- the stored current
-stored-p : (c : goal.After-minus) → to_z w64 (of_z w64 (reading c.args.stored.now (c.args.end / 2))) ≡ reading c.args.stored.now (c.args.end / 2)
-stored-p c = search rules
-
--- the voltage of the element
-across-p : (c : goal.After-minus) → to_z w64 (of_z w64 c.minus.result) ≡ across_on c.args.self.now.board c.args.volts.now (c.args.end / 2)
-across-p c =
-    let at_q_lem : to_z w64 (of_z w64 (reading c.args.volts.now c.end_q-q.result)) ≡ reading c.args.volts.now (q_on c.args.self.now.board (c.args.end / 2)) = let z = reading c.args.volts.now c.end_q-q.result in let e : to_z w64 (of_z w64 z) ≡ z = search rules in e ∙ ap (reading c.args.volts.now) c.end_q-q.ensures in
-    let own-p : c.args.own ≡ reading c.args.volts.now (p_on c.args.self.now.board (c.args.end / 2)) = rw (eq-eqb _ _ c.if-end-eq0.true) at c.requires.2 in
-    let e : to_z w64 (of_z w64 c.minus.result) ≡ c.minus.result = search rules in
-    e ∙ (rw (to_z-of_z c.ranges.own, at_q_lem, own-p) at c.minus.ensures)
+    let volts = reading c.args.volts.now in
+    let e : to_z w64 (of_z w64 (volts c.end_q-q.result)) ≡ volts c.end_q-q.result = search rules in
+    rw (to_z-of_z c.ranges.own, e, c.end_q-q.ensures, rw (eq-eqb _ _ c.if-end-eq0.true) at c.requires.2)
+    (minus_fits (volts (p_on c.args.self.now.board (c.args.end / 2))) (volts (q_on c.args.self.now.board (c.args.end / 2))) (omega (arith, c.requires.0.ranged _ (p_node _ _ laid (c.args.end / 2) c.requires.1), c.requires.0.ranged _ (q_node _ _ laid (c.args.end / 2) c.requires.1))))
 
 pub carried-requires : goal.carried-requires
 carried-requires c =
     let laid = c.requires.0.ready.laid in
-    (laid, c.requires.1, rw (stored-p c) (c.requires.0.kept (c.args.end / 2) c.requires.1), rw (across-p c) (across_fits c.args.self.now.board c.args.self.now.stretches laid (c.args.end / 2) c.requires.1 c.args.volts.now c.requires.0.ranged))
+    let volts = reading c.args.volts.now in
+    let e : to_z w64 (of_z w64 (volts c.end_q-q.result)) ≡ volts c.end_q-q.result = search rules in
+    let stored : to_z w64 (of_z w64 (reading c.args.stored.now (c.args.end / 2))) ≡ reading c.args.stored.now (c.args.end / 2) = search rules in
+    (laid, c.requires.1, rw stored (c.requires.0.kept (c.args.end / 2) c.requires.1), rw (to_z-of_z (overflow_sub-own c), to_z-of_z c.ranges.own, e, c.end_q-q.ensures, rw (eq-eqb _ _ c.if-end-eq0.true) at c.requires.2) (across_fits c.args.self.now.board c.args.self.now.stretches laid (c.args.end / 2) c.requires.1 c.args.volts.now c.requires.0.ranged))
+
+pub returns-then-end-eq0 : goal.returns-then-end-eq0
+returns-then-end-eq0 c =
+    let volts = reading c.args.volts.now in
+    let e : to_z w64 (of_z w64 (volts c.end_q-q.result)) ≡ volts c.end_q-q.result = search rules in
+    let stored : to_z w64 (of_z w64 (reading c.args.stored.now (c.args.end / 2))) ≡ reading c.args.stored.now (c.args.end / 2) = search rules in
+    let f : to_z w64 (of_z w64 c.carried.result) ≡ c.carried.result = search rules in
+    let flow = rw (stored, to_z-of_z (overflow_sub-own c.before), to_z-of_z c.ranges.own, e, c.end_q-q.ensures, rw (eq-eqb _ _ c.if-end-eq0.true) at c.requires.2) at c.carried.ensures in
+    rw (eq-eqb _ _ c.if-end-eq0.true) (f ∙ flow)
 
 pub offset_bounds-volts-p : goal.offset_bounds-volts-p
 offset_bounds-volts-p c = record { fits = omega (arith, c.end_p-p.ensures, p_node _ _ c.requires.0.ready.laid (c.args.end / 2) c.requires.1, few_nodes _ _ c.requires.0.ready.laid) }
@@ -48,37 +44,33 @@ offset_bounds-volts-p c = record { fits = omega (arith, c.end_p-p.ensures, p_nod
 pub bounds-volts-p : goal.bounds-volts-p
 bounds-volts-p c = omega (arith, c.end_p-p.ensures, p_node _ _ c.requires.0.ready.laid (c.args.end / 2) c.requires.1, few_nodes _ _ c.requires.0.ready.laid)
 
-pub minus-requires-2 : goal.minus-requires-2
-minus-requires-2 c =
-    let at_p : to_z w64 (of_z w64 (reading c.args.volts.now c.end_p-p.result)) ≡ reading c.args.volts.now (p_on c.args.self.now.board (c.args.end / 2)) = let z = reading c.args.volts.now c.end_p-p.result in let e : to_z w64 (of_z w64 z) ≡ z = search rules in e ∙ ap (reading c.args.volts.now) c.end_p-p.ensures in
-    let own-q : c.args.own ≡ reading c.args.volts.now (q_on c.args.self.now.board (c.args.end / 2)) = rw (ne_eqb _ _ c.if-end-eq0.false) at c.requires.2 in
+pub overflow_sub-volts : goal.overflow_sub-volts
+overflow_sub-volts c =
     let laid = c.requires.0.ready.laid in
-    rw (to_z-of_z c.ranges.own, at_p, own-q) (omega (arith, c.requires.0.ranged _ (p_node _ _ laid (c.args.end / 2) c.requires.1), c.requires.0.ranged _ (q_node _ _ laid (c.args.end / 2) c.requires.1)))
+    let volts = reading c.args.volts.now in
+    let e : to_z w64 (of_z w64 (volts c.end_p-p.result)) ≡ volts c.end_p-p.result = search rules in
+    rw (to_z-of_z c.ranges.own, e, c.end_p-p.ensures, rw (ne_eqb _ _ c.if-end-eq0.false) at c.requires.2)
+    (minus_fits (volts (p_on c.args.self.now.board (c.args.end / 2))) (volts (q_on c.args.self.now.board (c.args.end / 2))) (omega (arith, c.requires.0.ranged _ (p_node _ _ laid (c.args.end / 2) c.requires.1), c.requires.0.ranged _ (q_node _ _ laid (c.args.end / 2) c.requires.1))))
 
 pub carried-requires-2 : goal.carried-requires-2
 carried-requires-2 c =
-    let stored-q : to_z w64 (of_z w64 (reading c.args.stored.now (c.args.end / 2))) ≡ reading c.args.stored.now (c.args.end / 2) = search rules in
-    let at_p : to_z w64 (of_z w64 (reading c.args.volts.now c.end_p-p.result)) ≡ reading c.args.volts.now (p_on c.args.self.now.board (c.args.end / 2)) = let z = reading c.args.volts.now c.end_p-p.result in let e : to_z w64 (of_z w64 z) ≡ z = search rules in e ∙ ap (reading c.args.volts.now) c.end_p-p.ensures in
-    let own-q : c.args.own ≡ reading c.args.volts.now (q_on c.args.self.now.board (c.args.end / 2)) = rw (ne_eqb _ _ c.if-end-eq0.false) at c.requires.2 in
-    let across-q : to_z w64 (of_z w64 c.minus-2.result) ≡ across_on c.args.self.now.board c.args.volts.now (c.args.end / 2) = let e : to_z w64 (of_z w64 c.minus-2.result) ≡ c.minus-2.result = search rules in e ∙ (rw (to_z-of_z c.ranges.own, at_p, own-q) at c.minus-2.ensures) in
     let laid = c.requires.0.ready.laid in
-    (laid, c.requires.1, rw stored-q (c.requires.0.kept (c.args.end / 2) c.requires.1), rw across-q (across_fits c.args.self.now.board c.args.self.now.stretches laid (c.args.end / 2) c.requires.1 c.args.volts.now c.requires.0.ranged))
+    let volts = reading c.args.volts.now in
+    let e : to_z w64 (of_z w64 (volts c.end_p-p.result)) ≡ volts c.end_p-p.result = search rules in
+    let stored : to_z w64 (of_z w64 (reading c.args.stored.now (c.args.end / 2))) ≡ reading c.args.stored.now (c.args.end / 2) = search rules in
+    (laid, c.requires.1, rw stored (c.requires.0.kept (c.args.end / 2) c.requires.1), rw (to_z-of_z (overflow_sub-volts c), to_z-of_z c.ranges.own, e, c.end_p-p.ensures, rw (ne_eqb _ _ c.if-end-eq0.false) at c.requires.2) (across_fits c.args.self.now.board c.args.self.now.stretches laid (c.args.end / 2) c.requires.1 c.args.volts.now c.requires.0.ranged))
 
-pub minus-requires-3 : goal.minus-requires-3
-minus-requires-3 c =
-    let stored-q : to_z w64 (of_z w64 (reading c.args.stored.now (c.args.end / 2))) ≡ reading c.args.stored.now (c.args.end / 2) = search rules in
-    let at_p : to_z w64 (of_z w64 (reading c.args.volts.now c.end_p-p.result)) ≡ reading c.args.volts.now (p_on c.args.self.now.board (c.args.end / 2)) = let z = reading c.args.volts.now c.end_p-p.result in let e : to_z w64 (of_z w64 z) ≡ z = search rules in e ∙ ap (reading c.args.volts.now) c.end_p-p.ensures in
-    let own-q : c.args.own ≡ reading c.args.volts.now (q_on c.args.self.now.board (c.args.end / 2)) = rw (ne_eqb _ _ c.if-end-eq0.false) at c.requires.2 in
-    let across-q : to_z w64 (of_z w64 c.minus-2.result) ≡ across_on c.args.self.now.board c.args.volts.now (c.args.end / 2) = let e : to_z w64 (of_z w64 c.minus-2.result) ≡ c.minus-2.result = search rules in e ∙ (rw (to_z-of_z c.ranges.own, at_p, own-q) at c.minus-2.ensures) in
-    let flow-q : to_z w64 (of_z w64 c.carried-2.result) ≡ flow_on c.args.self.now.board c.args.self.now.stretches c.args.stored.now c.args.volts.now (c.args.end / 2) = let e : to_z w64 (of_z w64 c.carried-2.result) ≡ c.carried-2.result = search rules in e ∙ (rw (stored-q, across-q) at c.carried-2.ensures) in
-    rw flow-q (omega (arith, flow_fits _ _ _ _ c.requires.0 (c.args.end / 2) c.requires.1))
+-- the element's current
+flow : (c : goal.After-carried-2) → to_z w64 (of_z w64 c.carried-2.result) ≡ flow_on c.args.self.now.board c.args.self.now.stretches c.args.stored.now c.args.volts.now (c.args.end / 2)
+flow c =
+    let volts = reading c.args.volts.now in
+    let e : to_z w64 (of_z w64 (volts c.end_p-p.result)) ≡ volts c.end_p-p.result = search rules in
+    let stored : to_z w64 (of_z w64 (reading c.args.stored.now (c.args.end / 2))) ≡ reading c.args.stored.now (c.args.end / 2) = search rules in
+    let f : to_z w64 (of_z w64 c.carried-2.result) ≡ c.carried-2.result = search rules in
+    f ∙ rw (stored, to_z-of_z (overflow_sub-volts c.before), to_z-of_z c.ranges.own, e, c.end_p-p.ensures, rw (ne_eqb _ _ c.if-end-eq0.false) at c.requires.2) at c.carried-2.ensures
+
+pub overflow_sub-result : goal.overflow_sub-result
+overflow_sub-result c = rw (flow c) (minus_fits (pos 0) (flow_on c.args.self.now.board c.args.self.now.stretches c.args.stored.now c.args.volts.now (c.args.end / 2)) (omega (arith, flow_fits _ _ _ _ c.requires.0 (c.args.end / 2) c.requires.1)))
 
 pub returns : goal.returns
-returns c =
-    let stored-q : to_z w64 (of_z w64 (reading c.args.stored.now (c.args.end / 2))) ≡ reading c.args.stored.now (c.args.end / 2) = search rules in
-    let at_p : to_z w64 (of_z w64 (reading c.args.volts.now c.end_p-p.result)) ≡ reading c.args.volts.now (p_on c.args.self.now.board (c.args.end / 2)) = let z = reading c.args.volts.now c.end_p-p.result in let e : to_z w64 (of_z w64 z) ≡ z = search rules in e ∙ ap (reading c.args.volts.now) c.end_p-p.ensures in
-    let own-q : c.args.own ≡ reading c.args.volts.now (q_on c.args.self.now.board (c.args.end / 2)) = rw (ne_eqb _ _ c.if-end-eq0.false) at c.requires.2 in
-    let across-q : to_z w64 (of_z w64 c.minus-2.result) ≡ across_on c.args.self.now.board c.args.volts.now (c.args.end / 2) = let e : to_z w64 (of_z w64 c.minus-2.result) ≡ c.minus-2.result = search rules in e ∙ (rw (to_z-of_z c.ranges.own, at_p, own-q) at c.minus-2.ensures) in
-    let flow-q : to_z w64 (of_z w64 c.carried-2.result) ≡ flow_on c.args.self.now.board c.args.self.now.stretches c.args.stored.now c.args.volts.now (c.args.end / 2) = let e : to_z w64 (of_z w64 c.carried-2.result) ≡ c.carried-2.result = search rules in e ∙ (rw (stored-q, across-q) at c.carried-2.ensures) in
-    let e : to_z w64 (of_z w64 c.minus-3.result) ≡ c.minus-3.result = search rules in
-    rw (ne_eqb _ _ c.if-end-eq0.false) (e ∙ (rw flow-q at c.minus-3.ensures) ∙ +ℤ_idl _)
+returns c = rw (ne_eqb _ _ c.if-end-eq0.false) (to_z-of_z (overflow_sub-result c) ∙ rw (flow c) (+ℤ_idl _))

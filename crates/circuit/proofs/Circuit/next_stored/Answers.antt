@@ -4,6 +4,7 @@ use mir.Val.{to_z, of_z}
 use mir.Facts.{to_z-of_z}
 use borrow.Author.Rules.{rules}
 use native.Mathlib.Omega.{arith}
+use Rattle.units.proofs.Sizes.{minus_is}
 use Rattle.network.specs.Kind.{kind_of}
 use Rattle.network.specs.declared.kind.Kind.TheVariants.{Resistor, Capacitor, Inductor, Diode}
 use Rattle.network.proofs.KindLaws.{kind_number}
@@ -14,17 +15,15 @@ pub returns-in-Some-Capacitor : goal.returns-in-Some-Capacitor
 returns-in-Some-Capacitor c =
     let r = c.twice.result in
     let e : to_z w64 (of_z w64 r) ≡ r = search rules in
-    let f : to_z w64 (of_z w64 c.minus.result) ≡ c.minus.result = search rules in
     let k = kind_number _ Capacitor (rw c.in-Some-Capacitor.field-0-is at (sym c.of.ensures ∙ c.in-Some-Capacitor.is)) in
-    f ∙ (rw (e, to_z-of_z c.ranges.x) at c.minus.ensures) ∙ next_capacitor c.args.self.now.board c.args.self.now.stretches c.args.volts.now c.args.j c.args.x (sym c.kind.ensures ∙ k) r c.twice.ensures
+    minus_is _ _ r c.args.x e (to_z-of_z c.ranges.x) (omega (arith, c.twice.ensures.small, c.requires.3)) ∙ next_capacitor c.args.self.now.board c.args.self.now.stretches c.args.volts.now c.args.j c.args.x (sym c.kind.ensures ∙ k) r c.twice.ensures
 
 pub returns-in-Some-Inductor : goal.returns-in-Some-Inductor
 returns-in-Some-Inductor c =
     let r = c.twice-in-Some-Inductor.result in
     let e : to_z w64 (of_z w64 r) ≡ r = search rules in
-    let f : to_z w64 (of_z w64 c.minus-in-Some-Inductor.result) ≡ c.minus-in-Some-Inductor.result = search rules in
     let k = kind_number _ Inductor (rw c.in-Some-Inductor.field-0-is at (sym c.of.ensures ∙ c.in-Some-Inductor.is)) in
-    f ∙ (rw (e, to_z-of_z c.ranges.x) at c.minus-in-Some-Inductor.ensures) ∙ next_inductor c.args.self.now.board c.args.self.now.stretches c.args.volts.now c.args.j c.args.x (sym c.kind.ensures ∙ k) r c.twice-in-Some-Inductor.ensures
+    minus_is _ _ c.args.x r (to_z-of_z c.ranges.x) e (omega (arith, c.twice-in-Some-Inductor.ensures.small, c.requires.3)) ∙ next_inductor c.args.self.now.board c.args.self.now.stretches c.args.volts.now c.args.j c.args.x (sym c.kind.ensures ∙ k) r c.twice-in-Some-Inductor.ensures
 
 pub returns-in-Some-Resistor : goal.returns-in-Some-Resistor
 returns-in-Some-Resistor c =
