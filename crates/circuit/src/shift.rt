@@ -6,7 +6,6 @@ ghost use Rattle.circuit.specs.Nets.{Netted};
 ghost use Rattle.circuit.specs.Shift.{Shifted};
 
 use crate::Circuit;
-use units::signed;
 
 impl Circuit {
     // What the leaks carry more.
@@ -21,9 +20,9 @@ impl Circuit {
         ensures { Shifted self.now.board self.now.stretches stored.now volts.now s.now 0 nets.new }
     {
         let nodes = self.nodes();
-        let leak = signed::whole(self.leak());
+        let leak = self.leak() as i64;
         for i in 0..nodes + 1 {
-            nets[i] = signed::plus(nets[i], signed::times(leak, signed::minus(s[i], volts[i])));
+            nets[i] += leak * (s[i] - volts[i]);
         }
     }
 
@@ -47,8 +46,8 @@ impl Circuit {
         let more = self.gained(j, old, new);
         let p = self.end_p(j);
         let q = self.end_q(j);
-        nets[p] = signed::plus(nets[p], more);
-        nets[q] = signed::minus(nets[q], more);
+        nets[p] += more;
+        nets[q] -= more;
     }
 
     // The net currents at `volts` become those at s.
