@@ -16,10 +16,10 @@ impl Circuit {
         ensures { Leaked self.now.board volts.now result }
     {
         let nodes = self.nodes();
-        let leak = signed::whole(self.leak());
+        let leak = self.leak() as i64;
         let mut nets = [0i64; 16];
         for i in 0..nodes + 1 {
-            nets[i] = signed::times(leak, volts[i]);
+            nets[i] = leak * volts[i];
         }
         nets
     }
@@ -35,9 +35,9 @@ impl Circuit {
         for j in 0..count {
             let p = self.end_p(j);
             let q = self.end_q(j);
-            let c = self.carried(j, stored[j], signed::minus(volts[p], volts[q]));
-            nets[p] = signed::plus(nets[p], c);
-            nets[q] = signed::minus(nets[q], c);
+            let c = self.flow(stored, volts, j);
+            nets[p] += c;
+            nets[q] -= c;
         }
         nets
     }
