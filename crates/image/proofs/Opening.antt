@@ -1,4 +1,4 @@
--- The rules with a layout; from the rules to the opening, where the first that fails gives its number, and back. Assumes nothing.
+-- The rules with a layout; what they say for the reader's steps; from the rules to the opening, and back. Assumes nothing.
 use mathlib.Core.Path.{◌≡◌, refl, ◌∙◌}
 use mathlib.Core.Bool.{Bool, true, false, ◌&&◌}
 use mathlib.Core.List.{List}
@@ -75,6 +75,12 @@ module _ (image : List ℕ) where
       let says = header_says (parts_of image) (trailer_says image held) in
       let sizes = sizes_say image held sized in
       record { is = is; few_curves = rw is says.few_curves; sizes = rw is sizes.sizes; curves = sizes.curves }
+
+-- ---- from the rules to the opening
+
+pub opened_0 : (image : List ℕ) → length_fits (length image) ≡ true → trailer_fits image ≡ true → sizes_fit image ≡ true → curve_bytes_fit image ≡ true → elements_fit (parts_of image) ≡ true → opening_of image ≡ opened (parts_of image)
+unfolding opening_of
+opened_0 image a b c d e = rw (a, b, c, d, e)
 
 -- ---- and back: what an opened image says
 

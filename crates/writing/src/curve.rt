@@ -14,10 +14,8 @@ fn put_slopes(buffer: &mut [u8], at: usize, slopes: [u32; 17], n: usize)
     requires { (n ≤ suc breakpoint_count_limit) × (at + 4 * n ≤ length buffer.old) }
     ensures { buffer.new ≡ overlaid buffer.old at (in_turn (slope_bytes slopes) n) }
 {
-    let mut j: usize = 0;
-    while j < n {
+    for j in 0..n {
         bytes::put_unsigned::<4>(buffer, at + 4 * j, slopes[j] as u64);
-        j += 1;
     }
 }
 
@@ -26,10 +24,8 @@ fn put_breakpoints(buffer: &mut [u8], at: usize, breakpoints: [i32; 16], n: usiz
     requires { (n ≤ breakpoint_count_limit) × (at + 4 * n ≤ length buffer.old) }
     ensures { buffer.new ≡ overlaid buffer.old at (in_turn (breakpoint_bytes breakpoints) n) }
 {
-    let mut j: usize = 0;
-    while j < n {
+    for j in 0..n {
         bytes::put_signed::<4>(buffer, at + 4 * j, breakpoints[j] as i64);
-        j += 1;
     }
 }
 
@@ -63,10 +59,8 @@ pub fn curves_length(parts: Parts) -> usize
     let curves = parts.curves;
     let n = parts.curve_count as usize;
     let mut total: usize = 0;
-    let mut k: usize = 0;
-    while k < n {
+    for k in 0..n {
         total += curve_length(curves[k]);
-        k += 1;
     }
     total
 }
@@ -79,11 +73,9 @@ pub fn put_curves(buffer: &mut [u8], at: usize, parts: Parts)
     let curves = parts.curves;
     let n = parts.curve_count as usize;
     let mut end = at;
-    let mut k: usize = 0;
-    while k < n {
+    for k in 0..n {
         let c = curves[k];
         put_curve(buffer, end, c);
         end += curve_length(c);
-        k += 1;
     }
 }

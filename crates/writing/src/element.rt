@@ -26,9 +26,7 @@ pub fn put_elements(buffer: &mut [u8], parts: Parts)
 {
     let elements = parts.elements;
     let n = parts.element_count as usize;
-    let mut j: usize = 0;
-    while j < n {
+    for j in 0..n {
         put_element(buffer, image::ELEMENT * j, elements[j]);
-        j += 1;
     }
 }

@@ -2,7 +2,6 @@ use mathlib.Core.Path.{◌≡◌, refl, ◌∙◌, ap}
 use Prim.Native.Nat.{◌≤◌}
 use native.Mathlib.Omega.{arith}
 use lib.ListN.{length, get_or}
-use borrow.Author.Rules.{rules}
 use Rattle.units.specs.Table.{in_turn}
 use Rattle.image.proofs.Places.{curve_there}
 use Rattle.image.specs.Parts.{no_curve}
@@ -11,7 +10,7 @@ use Rattle.writing.proofs.curve.curves_length.Goals as goal
 
 pub loop-k-init : goal.loop-k-init
 unfolding in_turn
-loop-k-init c = (search rules, (refl, search rules))
+loop-k-init c = record { long = refl; small = omega arith }
 
 -- the length of the curve that was read
 long : (c : goal.After-curve_length-total) → (c.curve_length-total.result ≡ length (curve_in c.args.parts.curves c.loop-k.k)) × (c.curve_length-total.result ≤ 136)
@@ -30,10 +29,10 @@ pub loop-k-preserved : goal.loop-k-preserved
 loop-k-preserved c =
     let l = c.loop-k in
     let curves = c.args.parts.curves in
-    (search rules, (omega (arith, l.invariant.1.0, (long c).0, turn_length (curve_in curves) l.k), omega (arith, l.invariant.1.1, (long c).1)))
+    record { long = omega (arith, l.invariant.long, (long c).0, turn_length (curve_in curves) l.k); small = omega (arith, l.invariant.small, (long c).1) }
 
 pub returns : goal.returns
 returns c =
     let l = c.loop-k in
-    let e : l.k ≡ c.args.parts.curve_count = omega (arith, l.invariant.0) in
-    (l.invariant.1.0 ∙ ap length (ap (in_turn _) e ∙ curves_there c.args.parts), omega (arith, l.invariant.1.1, e, c.requires.few))
+    let e : l.k ≡ c.args.parts.curve_count = omega arith in
+    (l.invariant.long ∙ ap length (ap (in_turn _) e ∙ curves_there c.args.parts), omega (arith, l.invariant.small, e, c.requires.few))

@@ -1,5 +1,5 @@
 use mathlib.Core.Path.{◌≡◌}
-use Prim.Native.Nat.{◌*◌, ◌-◌, ◌≤◌}
+use Prim.Native.Nat.{◌*◌, ◌≤◌}
 use lib.ListN.{length}
 use Rattle.units.specs.Table.{in_turn}
 use Rattle.writing.proofs.Overlaying.{curve_in}
@@ -7,7 +7,7 @@ use Rattle.writing.proofs.curve.curves_length.Given as goal
 
 -- `writing::curve::curves_length` meets its contract. The total is the length of the curves that the loop has passed. Assumes nothing.
 abbrev pub invariant-loop-k : goal.invariant-loop-k
-invariant-loop-k l = (l.k ≤ l.n) × ((l.total ≡ length (in_turn (curve_in l.curves) l.k)) × (l.total ≤ 136 * l.k))
-
-abbrev pub decreases-loop-k : goal.decreases-loop-k
-decreases-loop-k l = l.n - l.k
+invariant-loop-k l = record {
+  long : l.total ≡ length (in_turn (curve_in l.curves) l.k);
+  small : l.total ≤ 136 * l.k;
+}

@@ -10,7 +10,7 @@ use Rattle.writing.proofs.Overlaying.{written_is, signed_low, turn_none, turn_mo
 use Rattle.writing.proofs.curve.put_breakpoints.Goals as goal
 
 pub loop-j-init : goal.loop-j-init
-loop-j-init c = (search rules, turn_none _ _ _)
+loop-j-init c = turn_none _ _ _
 
 pub loop-j-preserved : goal.loop-j-preserved
 loop-j-preserved c =
@@ -19,4 +19,4 @@ loop-j-preserved c =
     let f = narrow in
     let w : SFits w64 (reading c.args.breakpoints l.j) = sfits_widen tt f in
     let stored = rw (to_z-of_z f, to_z-of_z w) at c.put_signed.ensures in
-    (search rules, turn_more (breakpoint_bytes c.args.breakpoints) c.args.buffer.now c.args.at l.j l.invariant.1 (stored ∙ written_is 4 _ _ _) (omega (arith, breakpoints_length c.args.breakpoints l.j)) (signed_low (reading c.args.breakpoints l.j) f))
+    turn_more (breakpoint_bytes c.args.breakpoints) c.args.buffer.now c.args.at l.j l.invariant (stored ∙ written_is 4 _ _ _) (omega (arith, breakpoints_length c.args.breakpoints l.j)) (signed_low (reading c.args.breakpoints l.j) f)

@@ -1,5 +1,5 @@
 use mathlib.Core.Path.{◌≡◌}
-use Prim.Native.Nat.{◌+◌, ◌-◌, ◌≤◌}
+use Prim.Native.Nat.{◌+◌}
 use lib.ListN.{length}
 use Rattle.units.specs.Table.{overlaid, in_turn}
 use Rattle.writing.proofs.Overlaying.{curve_in}
@@ -7,7 +7,7 @@ use Rattle.writing.proofs.curve.put_curves.Given as goal
 
 -- `writing::curve::put_curves` meets its contract. The curves that the loop has passed are laid over the buffer, and it stands at their end. Assumes nothing.
 abbrev pub invariant-loop-k : goal.invariant-loop-k
-invariant-loop-k l = (l.k ≤ l.n) × ((l.end ≡ l.at + length (in_turn (curve_in l.curves) l.k)) × (l.buffer ≡ overlaid l.initial.buffer l.at (in_turn (curve_in l.curves) l.k)))
-
-abbrev pub decreases-loop-k : goal.decreases-loop-k
-decreases-loop-k l = l.n - l.k
+invariant-loop-k l = record {
+  stands : l.end ≡ l.at + length (in_turn (curve_in l.curves) l.k);
+  laid : l.buffer ≡ overlaid l.initial.buffer l.at (in_turn (curve_in l.curves) l.k);
+}
