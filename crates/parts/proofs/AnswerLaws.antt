@@ -1,13 +1,9 @@
--- What is answered of an image that was not opened, and of which outcome curves are written. Assumes nothing.
+-- Of which outcome curves are written. Assumes nothing.
 use mathlib.Core.Path.{◌≡◌, refl}
 use Prim.Native.Nat.{ℕ, ◌<◌}
 use native.Mathlib.Omega.{arith}
-use Rattle.units.specs.Number.{number_of}
-use Rattle.units.specs.declared.number.Number.{Number}
-use Rattle.units.specs.declared.number.Number.TheVariants.{Done}
-use Rattle.image.specs.Format.{Opening, opened, refused}
 use Rattle.image.specs.declared.parts.Parts.{Parts}
-use Rattle.parts.specs.Answer.{outcome_of, curves_after}
+use Rattle.parts.specs.Answer.{curves_after}
 use Rattle.parts.specs.declared.answer.Outcome.{Outcome}
 use Rattle.parts.specs.declared.answer.Outcome.TheVariants.{Refused, Unnamed, Netlist}
 

@@ -1,3 +1,4 @@
+use native.Mathlib.Omega.{arith}
 use Rattle.rendering.proofs.RenderingLaws.{driven_opened, driven_refused}
 use Rattle.rendering.proofs.turn.driven.Goals as goal
 
