@@ -11,6 +11,7 @@ ghost use Rattle.image.specs.Meaning.{leak_of};
 use super::limits;
 use super::parts::{Element, Parts};
 use network::kind;
+use network::kind::Kind;
 use units::ratio;
 
 // The leak of every free node, by the image's version.
@@ -45,17 +46,13 @@ fn inductor(microhenries: u32, rate: u32) -> u64
 pub fn conductance(kind: u8, value: u32, rate: u32) -> u64
     ensures { result ≡ conductance_by kind value rate }
 {
-    let k = kind as u64;
-    if k == kind::RESISTOR {
-        return resistor(value);
+    match Kind::of(kind as u64) {
+        Some(Kind::Resistor) => resistor(value),
+        Some(Kind::Capacitor) => capacitor(value, rate),
+        Some(Kind::Inductor) => inductor(value, rate),
+        Some(Kind::Diode) => 0,
+        None => 0,
     }
-    if k == kind::CAPACITOR {
-        return capacitor(value, rate);
-    }
-    if k == kind::INDUCTOR {
-        return inductor(value, rate);
-    }
-    0
 }
 
 fn conductance_fits(kind: u8, g: u64) -> bool

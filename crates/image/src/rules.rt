@@ -9,6 +9,7 @@ ghost use Rattle.image.specs.Parts.{curve_limit, no_curve, header_fits, curve_si
 use super::limits;
 use super::parts::{Curve, Element, Parts};
 use network::kind;
+use network::kind::Kind;
 use units::signed;
 
 pub fn header_fits(parts: &Parts) -> bool
@@ -82,8 +83,7 @@ pub fn curves_fit(parts: &Parts) -> bool
 fn kind_allowed(version: u8, kind: u8) -> bool
     ensures { result ≡ kind_allowed version kind }
 {
-    let k = kind as u64;
-    (kind::RESISTOR <= k) & (k <= kind::DIODE)
+    Kind::of(kind as u64).is_some()
 }
 
 // Whether an element's fields are in their ranges.
