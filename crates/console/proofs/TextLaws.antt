@@ -103,10 +103,6 @@ few_digits {n} {k} f h = few (ltb 20 k) refl
         let m : 10 ^ 20 ≤ 10 ^ (k - 1) = pow-le-pow_right (omega arith) {i = 20} {j = k - 1} (omega arith) in
         absurd (omega (arith, m, f.2 (omega arith)))
 
-pub sign_below : (z : ℤ) → lt_z z (pos 0) ≡ true → sign z ≡ 45 ∷ []
-sign_below (pos n) e = absurd (omega (arith, ltb-true n 0 e))
-sign_below (negsuc n) e = refl
-
 pub sign_above : (z : ℤ) → lt_z z (pos 0) ≡ false → sign z ≡ []
 sign_above (pos n) e = refl
 sign_above (negsuc n) e = absurd (true≢false e)

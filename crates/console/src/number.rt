@@ -5,7 +5,6 @@ ghost use Rattle.console.specs.Number.{all_digits, worth, worth_at, plain, spelt
 
 use super::words;
 use super::words::Run;
-use units::signed;
 
 // Why a text spells no number that is read: it is none, or one that is 2^63 or more in size.
 #[derive(Clone, Copy)]
@@ -54,10 +53,8 @@ pub fn value(negative: bool, size: u64) -> i64
     requires { size < 2 ^ 63 }
     ensures { result ≡ signed negative size }
 {
-    if negative {
-        return signed::minus(0, signed::whole(size));
-    }
-    signed::whole(size)
+    let value = size as i64;
+    if negative { -value } else { value }
 }
 
 // What digits spell, where a minus stands before them or none.

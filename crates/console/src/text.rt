@@ -3,8 +3,6 @@
 ghost use Rattle.std.specs.Prelude.{◌+◌, ◌≤◌, length};
 ghost use Rattle.console.specs.Text.{decimal, sign, number, line, refused_line, Adds};
 
-use units::signed;
-
 // A word as it stands.
 pub fn put_word(text: &mut [u8], at: usize, word: &[u8]) -> usize
     requires { at + length word.now ≤ length text.old }
@@ -30,7 +28,7 @@ fn put_sign(text: &mut [u8], at: usize, z: i64) -> usize
     requires { at + 1 ≤ length text.old }
     ensures { Adds (sign z) 1 at text.old result text.new }
 {
-    if signed::less(z, 0) {
+    if z < 0 {
         return put_word(text, at, b"-");
     }
     at
@@ -42,7 +40,7 @@ pub fn put_number(text: &mut [u8], at: usize, z: i64) -> usize
     ensures { Adds (number z) 21 at text.old result text.new }
 {
     let digits = put_sign(text, at, z);
-    put_decimal(text, digits, signed::size(z))
+    put_decimal(text, digits, z.unsigned_abs())
 }
 
 // The same, and the line's end.

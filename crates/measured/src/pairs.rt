@@ -4,8 +4,6 @@ ghost use Rattle.std.specs.Prelude.{◌≡◌, suc, ◌+◌, ◌<◌, length};
 ghost use Rattle.units.specs.Table.{every};
 ghost use Rattle.measured.specs.Measured.{follows, size_at, count_fits, pairs_fit};
 
-use units::signed;
-
 const FEWEST: usize = 2;
 
 // More pairs than these make no curve.
@@ -21,7 +19,7 @@ pub fn size_at(list: &[i64], j: usize) -> u64
     requires { j < length list.now }
     ensures { result ≡ size_at list.now j }
 {
-    signed::size(list[j])
+    list[j].unsigned_abs()
 }
 
 // Whether the pair after pair j may follow it.
@@ -29,10 +27,10 @@ fn follows(voltages: &[i64], currents: &[i64], j: usize) -> bool
     requires { (suc j < length voltages.now) × (suc j < length currents.now) }
     ensures { result ≡ follows voltages.now currents.now j }
 {
-    signed::less(voltages[j], voltages[j + 1])
-        & signed::at_most(voltages[j + 1], VOLTAGE)
-        & signed::at_most(currents[j], currents[j + 1])
-        & signed::at_most(currents[j + 1], CURRENT)
+    (voltages[j] < voltages[j + 1])
+        & (voltages[j + 1] <= VOLTAGE)
+        & (currents[j] <= currents[j + 1])
+        & (currents[j + 1] <= CURRENT)
 }
 
 // Whether each of the n pairs after the first may follow the one before it.

@@ -8,5 +8,5 @@ unfolding number
 returns c =
     let e = to_z-of_z c.ranges.z in
     let sign = rw e at c.put_sign-digits.ensures in
-    let size = rw e at c.size.ensures in
+    let size = rw e at c.unsigned_abs.ensures.value in
     adds_then sign (rw size at c.put_decimal.ensures)

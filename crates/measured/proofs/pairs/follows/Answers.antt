@@ -19,4 +19,4 @@ returns c =
     let next-volt : to_z w64 (of_z w64 (reading volts (j + 1))) ≡ reading volts (j + 1) = search rules in
     let amp : to_z w64 (of_z w64 (reading amps j)) ≡ reading amps j = search rules in
     let next-amp : to_z w64 (of_z w64 (reading amps (j + 1))) ≡ reading amps (j + 1) = search rules in
-    rw (c.less.ensures, c.at_most.ensures, c.at_most-2.ensures, c.at_most-3.ensures, volt, next-volt, amp, next-amp, add-one j)
+    rw (volt, next-volt, amp, next-amp, add-one j)
