@@ -36,7 +36,7 @@ fn worth(digits: &[u8]) -> u64
         if TENTH < n {
             return BEYOND;
         }
-        n = 10 * n + (*digit - b'0') as u64;
+        n = 10 * n + u64::from(*digit - b'0');
     }
     n.min(BEYOND)
 }

@@ -28,11 +28,11 @@ pub fn stage(n: u64) -> Option<u32>
 fn parallel(a: u32, b: u32) -> u64
     ensures { result ≡ together Bars a b }
 {
-    let sum = (a as u64) + (b as u64);
+    let sum = u64::from(a) + u64::from(b);
     if sum == 0 {
         return 0;
     }
-    (a as u64) * (b as u64) / sum
+    u64::from(a) * u64::from(b) / sum
 }
 
 // What a sign makes of two numbers, which need not be within the limits.
@@ -40,7 +40,7 @@ fn together(sign: Sign, a: u32, b: u32) -> u64
     ensures { result ≡ together sign a b }
 {
     match sign {
-        Sign::Plus => (a as u64) + (b as u64),
+        Sign::Plus => u64::from(a) + u64::from(b),
         Sign::Bars => parallel(a, b),
     }
 }

@@ -12,8 +12,8 @@ returns-then-n-gt-TENTH c =
     let digits = c.args.digits.now in
     sym (min-eq_right (worth_beyond digits l.digit-index (length digits) c.loop-digit-test.true (omega (arith, l.invariant, c.if-n-gt-TENTH.true))))
 
-pub overflow_sub-n : goal.overflow_sub-n
-overflow_sub-n c = digit_says c.args.digits.now c.loop-digit.digit-index c.requires c.loop-digit-test.true
+pub overflow_sub-digit : goal.overflow_sub-digit
+overflow_sub-digit c = digit_says c.args.digits.now c.loop-digit.digit-index c.requires c.loop-digit-test.true
 
 pub loop-digit-preserved : goal.loop-digit-preserved
-loop-digit-preserved c = let l = c.loop-digit in rw l.invariant (sym (worth_more c.args.digits.now l.digit-index))
+loop-digit-preserved c = let l = c.loop-digit in rw (l.invariant, c.from.ensures) (sym (worth_more c.args.digits.now l.digit-index))

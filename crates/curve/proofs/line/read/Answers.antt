@@ -1,23 +1,23 @@
-use mathlib.Core.Path.{◌≡◌, sym, ◌∙◌, ap}
-use Rattle.console.specs.Words.{first, rest}
-use Rattle.console.specs.declared.words.Run.TheVariants.{Blanks, Word, Said}
+use mathlib.Core.Path.{sym, ◌∙◌, ap}
+use Rattle.console.specs.Words.{first}
+use Rattle.console.specs.declared.words.Run.TheVariants.{Word}
 use Rattle.console.specs.Number.{spelt}
-use Rattle.curve.specs.Text.{next_word, line_of}
+use Rattle.curve.specs.Text.{line_of}
 use Rattle.curve.proofs.line.read.Goals as goal
 
 pub returns-then-is_empty : goal.returns-then-is_empty
 unfolding line_of
 returns-then-is_empty c =
-    let one : c.rest-from_first.result.now ≡ rest Blanks (first Said c.args.line.now) = c.rest-from_first.ensures ∙ ap (rest Blanks) c.first-said.ensures in
+    let one = rw c.first-said.ensures at c.rest-from_first.ensures in
     let none = sym c.is_empty.ensures ∙ c.if-is_empty.true in
     rw (rw one at none)
 
 pub returns-then-not-is_empty : goal.returns-then-not-is_empty
 unfolding line_of
 returns-then-not-is_empty c =
-    let one : c.rest-from_first.result.now ≡ rest Blanks (first Said c.args.line.now) = c.rest-from_first.ensures ∙ ap (rest Blanks) c.first-said.ensures in
-    let two : c.next_word-from_second.result.now ≡ next_word (rest Blanks (first Said c.args.line.now)) = c.next_word-from_second.ensures ∙ ap next_word one in
-    let three : c.next_word-after.result.now ≡ next_word (next_word (rest Blanks (first Said c.args.line.now))) = c.next_word-after.ensures ∙ ap next_word two in
+    let one = rw c.first-said.ensures at c.rest-from_first.ensures in
+    let two = rw one at c.next_word-from_second.ensures in
+    let three = rw two at c.next_word-after.ensures in
     let some = sym c.is_empty.ensures ∙ c.if-is_empty.false in
     let more = sym c.is_empty-2.ensures ∙ c.if-not-is_empty.true in
     rw (rw one at some, rw three at more)
@@ -25,9 +25,9 @@ returns-then-not-is_empty c =
 pub returns : goal.returns
 unfolding line_of
 returns c =
-    let one : c.rest-from_first.result.now ≡ rest Blanks (first Said c.args.line.now) = c.rest-from_first.ensures ∙ ap (rest Blanks) c.first-said.ensures in
-    let two : c.next_word-from_second.result.now ≡ next_word (rest Blanks (first Said c.args.line.now)) = c.next_word-from_second.ensures ∙ ap next_word one in
-    let three : c.next_word-after.result.now ≡ next_word (next_word (rest Blanks (first Said c.args.line.now))) = c.next_word-after.ensures ∙ ap next_word two in
+    let one = rw c.first-said.ensures at c.rest-from_first.ensures in
+    let two = rw one at c.next_word-from_second.ensures in
+    let three = rw two at c.next_word-after.ensures in
     let some = sym c.is_empty.ensures ∙ c.if-is_empty.false in
     let none = sym c.is_empty-2.ensures ∙ c.if-not-is_empty.false in
     let first_word = c.number-voltage.ensures ∙ ap spelt (c.first.ensures ∙ ap (first Word) one) in

@@ -1,5 +1,5 @@
 -- A factor's answers are right by the laws of FoundLaws; a chain's first value, its next and its last by those of ReadyLaws. Assumes nothing.
-use Rattle.std.proofs.Common.{◌≤◌, ◌<◌, sym, ap, ◌∙◌, inl, inr, arith}
+use Rattle.std.proofs.Common.{◌<◌, sym, ap, ◌∙◌, inl, inr, arith}
 use Rattle.console.specs.Number.{worth_at}
 use Rattle.console.specs.Words.{past}
 use Rattle.console.specs.declared.words.Run.TheVariants.{Digits}
@@ -22,7 +22,7 @@ factor-returns-then-at-end t c =
 pub factor-returns-then-room-eq0 : goal.factor-returns-then-room-eq0
 factor-returns-then-room-eq0 t c =
     let a = c.args in
-    let none : past Digits a.text.now a.at ≤ a.at = rw c.past-end.ensures at c.if-at-end.false in
+    let none = rw c.past-end.ensures at c.if-at-end.false in
     elim c.then-room-eq0.branch [
       | factor-then-room-eq0-via-then-room-eq0 w ↦ factor_unopened a.text.now a.at none a.room (inl w.if-room-eq0.true)
       | factor-then-room-eq0-via-else-room-eq0+then-byte_at-ne40 w ↦ factor_unopened a.text.now a.at none a.room (inr (λ e. w.if-byte_at-ne40.true (w.byte_at.ensures ∙ e)))
@@ -31,20 +31,20 @@ factor-returns-then-room-eq0 t c =
 pub factor-returns-in_err-inside : goal.factor-returns-in_err-inside
 factor-returns-in_err-inside t c =
     let a = c.args in
-    let none : past Digits a.text.now a.at ≤ a.at = rw c.past-end.ensures at c.if-at-end.false in
+    let none = rw c.past-end.ensures at c.if-at-end.false in
     rw c.from_residual.ensures (factor_empty a.text.now a.at none a.room (omega arith) (rw c.past-opened.ensures at c.in_err-inside.ensures))
 
 pub factor-returns-then-byte_at-ne41 : goal.factor-returns-then-byte_at-ne41
 factor-returns-then-byte_at-ne41 t c =
     let a = c.args in
-    let none : past Digits a.text.now a.at ≤ a.at = rw c.past-end.ensures at c.if-at-end.false in
+    let none = rw c.past-end.ensures at c.if-at-end.false in
     let inside = c.in_ok-inside.inside in
     factor_unclosed a.text.now a.at none inside.end inside.worth a.room (omega arith) (rw c.past-opened.ensures at c.in_ok-inside.ensures) (λ e. c.if-byte_at-ne41.true (c.byte_at-2.ensures ∙ e))
 
 pub factor-returns : goal.factor-returns
 factor-returns t c =
     let a = c.args in
-    let none : past Digits a.text.now a.at ≤ a.at = rw c.past-end.ensures at c.if-at-end.false in
+    let none = rw c.past-end.ensures at c.if-at-end.false in
     let inside = c.in_ok-inside.inside in
     let opened = sym c.byte_at.ensures ∙ c.if-byte_at-ne40.false in
     let closed = sym c.byte_at-2.ensures ∙ c.if-byte_at-ne41.false in
