@@ -6,7 +6,7 @@ use Prim.Native.Nat.{ℕ, suc, ◌+◌, ◌≤◌, ◌<◌}
 use native.Mathlib.Numerals.{add-one}
 use native.Mathlib.Omega.{arith}
 use lib.IntN.{ℤ}
-use lib.ListN.{length, take, drop, set, length-append, length-set}
+use lib.ListN.{length, take, drop, set, length-append}
 use lib.Seq.{append_snoc, take-suc-set, take_all}
 use lib.Dec.{leb}
 use Rattle.network.specs.Network.{breakpoint_count_limit}
@@ -18,9 +18,9 @@ use Rattle.measured.proofs.Promise.{few, too_many}
 use Rattle.console.specs.Words.{first, lines}
 use Rattle.console.specs.declared.words.Run.TheVariants.{Line}
 use Rattle.curve.specs.Text.{Told, told, broken, joined, line_of, told_by, answer, longest_text, curve_of}
-use Rattle.curve.specs.Kept.{Sized, told_with, Reads}
+use Rattle.curve.specs.Kept.{told_with, Reads}
 use Rattle.curve.specs.declared.line.Line.TheVariants.{Empty, Pair, Other}
-use Rattle.curve.specs.declared.pairs.Kept.{Kept}
+use Rattle.curve.specs.declared.kept.Kept.{Kept}
 use Rattle.curve.proofs.TextLaws.{line_length, told_first}
 
 -- nothing was read yet
@@ -40,34 +40,25 @@ unfolding told_with
 broken_tells more = refl
 
 -- an empty line
-pub reads_empty : (kept : Kept) → Sized kept → Reads kept Empty (Some kept)
-reads_empty kept sized = record { same = λ more. refl; sized = sized }
+pub reads_empty : (kept : Kept) → Reads kept Empty (Some kept)
+reads_empty kept more = refl
 
 -- a line that is no pair
 pub reads_other : (kept : Kept) → Reads kept Other None
 unfolding told_with
-reads_other kept = record { same = λ more. refl; sized = tt }
+reads_other kept more = refl
 
 -- a pair that there is room for
 longer : (l : List ℤ) (n : ℕ) (z : ℤ) (more : List ℤ) → n < length l → take (n + 1) (set l n z) ++ more ≡ take n l ++ (z ∷ more)
 longer l n z more h = rw (add-one n, take-suc-set l n z h) (append_snoc (take n l) z more)
 
-module _ (kept : Kept) (v i : ℤ) (sized : Sized kept) where
+module _ (kept : Kept) (v i : ℤ) where
   pub reads_pair : (r : Kept) → kept.count < most_pairs → r.count ≡ kept.count + 1 → r.voltages ≡ set kept.voltages kept.count v → r.currents ≡ set kept.currents kept.count i → Reads kept (Pair v i) (Some r)
   unfolding told_with
-  reads_pair r room count voltages currents =
-      record {
-        same = λ more. ap answer (tells more);
-        sized =
-            record {
-              count = omega arith;
-              voltages = ap length voltages ∙ length-set kept.voltages kept.count v ∙ sized.voltages;
-              currents = ap length currents ∙ length-set kept.currents kept.count i ∙ sized.currents;
-            };
-      }
+  reads_pair r room count voltages currents more = ap answer (tells more)
     where
       tells : (more : Told) → told_with (Some r) more ≡ told_with (Some kept) (joined (Pair v i) more)
-      tells (told volts amps) = rw (count, voltages, currents, longer kept.voltages kept.count v volts (omega (arith, sized.voltages)), longer kept.currents kept.count i amps (omega (arith, sized.currents)))
+      tells (told volts amps) = rw (count, voltages, currents, longer kept.voltages kept.count v volts (omega (arith, kept.voltages_room)), longer kept.currents kept.count i amps (omega (arith, kept.currents_room)))
       tells broken = refl
 
   -- a pair more than a curve is made from
@@ -76,16 +67,16 @@ module _ (kept : Kept) (v i : ℤ) (sized : Sized kept) where
   much full broken = refl
   much full (told volts amps) =
       let front = take kept.count kept.voltages in
-      let all : length front ≡ most_pairs = rw (take_all kept.count kept.voltages (omega (arith, sized.voltages))) sized.voltages in
+      let all : length front ≡ most_pairs = rw (take_all kept.count kept.voltages (omega (arith, kept.voltages_room))) kept.voltages_room in
       too_many (front ++ (v ∷ volts)) (take kept.count kept.currents ++ (i ∷ amps)) (omega (arith, length-append front (v ∷ volts), all))
 
   pub reads_much : most_pairs ≤ kept.count → Reads kept (Pair v i) None
-  reads_much full = record { same = λ more. ap answer (broken_tells more) ∙ sym (much full more); sized = tt }
+  reads_much full more = ap answer (broken_tells more) ∙ sym (much full more)
 
 -- the first line of what is left was read
 pub reads_first : (kept : Kept) (r : Option Kept) (rest line : List ℕ) → (length rest ≡ 0 → ⊥) → line ≡ first Line rest → Reads kept (line_of line) r → answer (told_with r (told_by (lines (drop (suc (line_length rest)) rest)))) ≡ answer (told_with (Some kept) (told_by (lines rest)))
 reads_first kept r rest line some is read =
-    read.same (told_by (lines (drop (suc (line_length rest)) rest)))
+    read (told_by (lines (drop (suc (line_length rest)) rest)))
     ∙ ap (λ (t : Told). answer (told_with (Some kept) t)) (rw is (sym (told_first rest some)))
 
 -- ---- no answer has more breakpoints than a curve may have

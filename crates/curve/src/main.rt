@@ -5,6 +5,7 @@
 #![tactic(auto)]
 
 mod answer;
+mod kept;
 mod line;
 mod pairs;
 

@@ -1,10 +1,11 @@
 // The pairs of a text, and the curve that they make.
-ghost use Rattle.std.specs.Prelude.{◌≡◌, [], ◌≤◌, IfSome, length};
+ghost use Rattle.std.specs.Prelude.{◌≡◌, [], ◌≤◌, length};
 ghost use Rattle.console.specs.Words.{lines};
 ghost use Rattle.curve.specs.Text.{told, line_of, told_by, answer, longest_text, curve_of};
-ghost use Rattle.curve.specs.Kept.{Sized, Reads, told_with};
+ghost use Rattle.curve.specs.Kept.{Reads, told_with};
 ghost use Rattle.curve.specs.declared.line.Line.TheVariants.{Pair};
 
+use super::kept::Kept;
 use super::line;
 use super::line::Line;
 use console::words;
@@ -12,21 +13,12 @@ use console::words::Run;
 use image::Curve;
 use measured::Refusal;
 
-// The pairs that the lines so far have told. Voltages and currents stand apart, as `measured::curve`
-// asks for them.
-#[derive(Clone, Copy)]
-struct Kept {
-    count: usize,
-    voltages: [i64; 17],
-    currents: [i64; 17],
-}
-
 // The longest text that is read, in bytes.
 const LONGEST: usize = 65535;
 
 // No pairs, before the first line.
 fn none() -> Kept
-    ensures { (result.count ≡ 0) × Sized result }
+    ensures { result.count ≡ 0 }
 {
     Kept {
         count: 0,
@@ -37,7 +29,6 @@ fn none() -> Kept
 
 // The pairs with one more, if a curve may be made from so many.
 fn one_more(kept: Kept, voltage: i64, current: i64) -> Option<Kept>
-    requires { Sized kept }
     ensures { Reads kept (Pair voltage current) result }
 {
     let n = kept.count;
@@ -57,7 +48,6 @@ fn one_more(kept: Kept, voltage: i64, current: i64) -> Option<Kept>
 
 // The pairs with those of one more line, which is nothing else.
 fn read_line(kept: Kept, line: &[u8]) -> Option<Kept>
-    requires { Sized kept }
     ensures { Reads kept (line_of line.now) result }
 {
     match line::read(line) {
@@ -70,7 +60,7 @@ fn read_line(kept: Kept, line: &[u8]) -> Option<Kept>
 // The pairs of all lines.
 fn read(text: &[u8]) -> Option<Kept>
     requires { length text.now ≤ longest_text }
-    ensures { (answer (told_with result (told [] [])) ≡ answer (told_by (lines text.now))) × IfSome result Sized }
+    ensures { answer (told_with result (told [] [])) ≡ answer (told_by (lines text.now)) }
 {
     let mut kept = none();
     let mut at: usize = 0;

@@ -15,11 +15,11 @@ unfolding curve_of
 returns-in_default c =
     let text = c.args.text.now in
     let short = le-leb (length text) longest_text c.if-text-gt-LONGEST.false in
-    rw short (ap answer (sym (broken_tells (told [] []))) ∙ c.in_default.ensures.0)
+    rw short (ap answer (sym (broken_tells (told [] []))) ∙ c.in_default.ensures)
 
 pub returns : goal.returns
 unfolding curve_of
 returns c =
     let text = c.args.text.now in
     let short = le-leb (length text) longest_text c.if-text-gt-LONGEST.false in
-    c.curve.ensures ∙ rw short (ap answer (sym (whole_tells c.in-Some.kept)) ∙ c.in-Some.ensures.0)
+    c.curve.ensures ∙ rw short (ap answer (sym (whole_tells c.in-Some.kept)) ∙ c.in-Some.ensures)

@@ -17,7 +17,7 @@ use Rattle.curve.proofs.pairs.read.Goals as goal
 pub loop-at-init : goal.loop-at-init
 loop-at-init c =
     let made = c.none-kept in
-    (omega arith, ap answer (start_tells made.result made.ensures.0 (told_by (lines c.args.text.now))), made.ensures.1)
+    (omega arith, ap answer (start_tells made.result made.ensures (told_by (lines c.args.text.now))))
 
 pub returns-in_err-kept : goal.returns-in_err-kept
 returns-in_err-kept c =
@@ -26,7 +26,7 @@ returns-in_err-kept c =
     let rest = drop l.at text in
     let line : c.first-line.result.now ≡ first Line rest = rw (from_there l.at text) at c.first-line.ensures in
     let tells = reads_first l.kept None rest _ (λ e. omega (arith, e, length-drop l.at text)) line c.in_err-kept.ensures in
-    rw c.from_residual.ensures (ap answer (broken_tells (told [] []) ∙ sym (broken_tells _)) ∙ tells ∙ l.invariant.1, tt)
+    rw c.from_residual.ensures (ap answer (broken_tells (told [] []) ∙ sym (broken_tells _)) ∙ tells ∙ l.invariant.1)
 
 pub loop-at-preserved : goal.loop-at-preserved
 loop-at-preserved c =
@@ -42,7 +42,6 @@ loop-at-preserved c =
     let read = c.in_ok-kept.ensures in (
       omega (arith, at, few, length-drop l.at text),
       rw next (reads_first l.kept (Some c.in_ok-kept.kept) rest _ (λ e. omega (arith, e, length-drop l.at text)) line read ∙ l.invariant.1),
-      read.sized,
     )
 
 pub returns : goal.returns
@@ -50,4 +49,4 @@ returns c =
     let l = c.loop-at in
     let text = c.args.text.now in
     let past : drop l.at text ≡ [] = drop_of_length-le text {i = l.at} c.loop-at-test.false in
-    (rw (past, told_none) at l.invariant.1, l.invariant.2)
+    rw (past, told_none) at l.invariant.1
