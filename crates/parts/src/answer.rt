@@ -1,67 +1,51 @@
-// What an image comes to: a netlist of its parts, or a reason why there is none.
+// What an image comes to: the parts of a netlist, or a reason why there is none.
 ghost use Rattle.std.specs.Prelude.{◌≡◌};
 ghost use Rattle.image.specs.Format.{opening_of};
 ghost use Rattle.image.specs.Sound.{Sound};
-ghost use Rattle.parts.specs.Answer.{judged_outcome, Answers, curves_after};
+ghost use Rattle.parts.specs.Answer.{judged_outcome, Ready, Answers, curves_of};
 
 use super::nodes;
-use image::Parts;
+use image::{Curve, Parts};
 use units::number::Number;
 
-// The number that refuses the image, a node count that no netlist has, or a netlist.
+// The number that refuses the image, or a node count that no netlist has.
 #[derive(Clone, Copy)]
-pub enum Outcome {
-    Refused(u64),
+pub enum Reason {
+    Refused(Number),
     Unnamed(u64),
-    Netlist,
-}
-
-// The outcome, and the parts if the image was opened; zeros if not.
-#[derive(Clone, Copy)]
-pub struct Answer {
-    pub outcome: Outcome,
-    pub parts: Parts,
 }
 
 // Of an opened image. Rule 6 is asked here, since reading alone does not ask it.
-fn judged(parts: Parts) -> Outcome
+fn judged(parts: Parts) -> Result<Parts, Reason>
     requires { Sound parts }
     ensures { result ≡ judged_outcome parts }
 {
     if !image::conductances_fit(parts) {
-        return Outcome::Refused(u64::from(Number::Conductance));
+        return Err(Reason::Refused(Number::Conductance));
     }
     if nodes::highest_named(parts) < parts.nodes {
-        return Outcome::Unnamed(parts.nodes as u64);
+        return Err(Reason::Unnamed(parts.nodes as u64));
     }
-    Outcome::Netlist
+    Ok(parts)
 }
 
 // The answer to any bytes whatever.
-pub fn to(image: &[u8]) -> Answer
+pub fn to(image: &[u8]) -> Result<Parts, Reason>
     ensures { Answers (opening_of image.now) result }
 {
     match image::read(image) {
-        Ok(parts) => Answer {
-            outcome: judged(parts),
-            parts,
-        },
-        Err(number) => Answer {
-            outcome: Outcome::Refused(u64::from(number)),
-            parts: image::no_parts(),
-        },
+        Ok(parts) => judged(parts),
+        Err(number) => Err(Reason::Refused(number)),
     }
 }
 
-// How many curves are written after the beginning.
-pub fn curve_count(answer: Answer) -> usize
-    ensures { result ≡ curves_after answer.outcome answer.parts }
+// The curves that are written after the beginning.
+pub fn curves(answer: &Result<Parts, Reason>) -> &[Curve]
+    requires { Ready answer.now }
+    ensures { result.now ≡ curves_of answer.now }
 {
-    let outcome = answer.outcome;
-    let parts = answer.parts;
-    match outcome {
-        Outcome::Refused(_) => 0,
-        Outcome::Unnamed(_) => 0,
-        Outcome::Netlist => parts.curve_count as usize,
+    match answer {
+        Ok(parts) => &parts.curves[..parts.curve_count as usize],
+        Err(_) => &[],
     }
 }

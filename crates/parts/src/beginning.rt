@@ -5,7 +5,7 @@ ghost use Rattle.console.specs.Text.{Adds};
 ghost use Rattle.parts.specs.Netlist.{setting_lines, element_lines};
 ghost use Rattle.parts.specs.Answer.{Ready, beginning};
 
-use super::answer::{Answer, Outcome};
+use super::answer::Reason;
 use super::element;
 use console::text;
 use image::Parts;
@@ -32,15 +32,13 @@ fn put_netlist(text: &mut [u8], parts: Parts) -> usize
 }
 
 // These, or the one line in their place, at the start of `text`.
-pub fn put(text: &mut [u8], answer: Answer) -> usize
-    requires { Ready answer × (4096 ≤ length text.old) }
-    ensures { Adds (beginning answer.outcome answer.parts) 4096 0 text.old result text.new }
+pub fn put(text: &mut [u8], answer: &Result<Parts, Reason>) -> usize
+    requires { Ready answer.now × (4096 ≤ length text.old) }
+    ensures { Adds (beginning answer.now) 4096 0 text.old result text.new }
 {
-    let outcome = answer.outcome;
-    let parts = answer.parts;
-    match outcome {
-        Outcome::Refused(number) => text::put_refused(text, number),
-        Outcome::Unnamed(nodes) => report::put_named(text, 0, b"unnamed ", nodes),
-        Outcome::Netlist => put_netlist(text, parts),
+    match *answer {
+        Ok(parts) => put_netlist(text, parts),
+        Err(Reason::Refused(number)) => text::put_refused(text, u64::from(number)),
+        Err(Reason::Unnamed(nodes)) => report::put_named(text, 0, b"unnamed ", nodes),
     }
 }

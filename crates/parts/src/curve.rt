@@ -8,15 +8,14 @@ ghost use Rattle.parts.specs.Netlist.{stretch, curve_line};
 
 use console::text;
 use image::Curve;
-use units::signed;
 
 // A slope, and the breakpoint up to which it goes.
 fn put_stretch(text: &mut [u8], at: usize, slope: u32, breakpoint: i32) -> usize
     requires { at + 44 ≤ length text.old }
     ensures { Adds (spaced (pos slope) ++ spaced breakpoint) 44 at text.old result text.new }
 {
-    let end = report::put_spaced(text, at, report::whole_slope(slope));
-    report::put_spaced(text, end, signed::widened(breakpoint))
+    let end = report::put_spaced(text, at, i64::from(slope));
+    report::put_spaced(text, end, i64::from(breakpoint))
 }
 
 // The first n of them.
@@ -31,10 +30,8 @@ fn put_stretches(
     ensures { Adds (in_turn (stretch slopes breakpoints) n) 704 at text.old result text.new }
 {
     let mut end = at;
-    let mut j: usize = 0;
-    while j < n {
+    for j in 0..n {
         end = put_stretch(text, end, slopes[j], breakpoints[j]);
-        j += 1;
     }
     end
 }
@@ -49,6 +46,6 @@ pub fn put(text: &mut [u8], curve: Curve) -> usize
     let breakpoints = curve.breakpoints;
     let a = text::put_word(text, 0, b"curve");
     let b = put_stretches(text, a, slopes, breakpoints, m);
-    let c = report::put_spaced(text, b, report::whole_slope(slopes[m]));
+    let c = report::put_spaced(text, b, i64::from(slopes[m]));
     text::put_word(text, c, b"\n")
 }

@@ -36,12 +36,10 @@ pub fn put_elements(text: &mut [u8], at: usize, parts: Parts) -> usize
     requires { (parts.element_count ≤ branch_limit) × (at + 2720 ≤ length text.old) }
     ensures { Adds (element_lines parts parts.element_count) 2720 at text.old result text.new }
 {
-    let n = parts.element_count as usize;
+    let elements = parts.elements;
     let mut end = at;
-    let mut j: usize = 0;
-    while j < n {
-        end = put_element(text, end, j + 1, parts.elements[j]);
-        j += 1;
+    for (j, e) in elements[..parts.element_count as usize].iter().enumerate() {
+        end = put_element(text, end, j + 1, *e);
     }
     end
 }

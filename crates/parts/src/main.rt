@@ -12,20 +12,18 @@ mod nodes;
 
 ghost use Rattle.parts.specs.Answer.{Ready};
 
-use answer::Answer;
+use answer::Reason;
+use image::Parts;
 use std::io;
 use std::rt::Files;
 
 // The curves of a netlist, a line each.
-fn write_curves(out: &impl Print, answer: Answer) -> io::Result<()>
-    requires { Ready answer }
+fn write_curves(out: &impl Print, answer: &Result<Parts, Reason>) -> io::Result<()>
+    requires { Ready answer.now }
 {
-    let n = answer::curve_count(answer);
-    let parts = answer.parts;
-    let curves = parts.curves;
-    for k in 0..n {
+    for curve in answer::curves(answer) {
         let mut text = outside::buffer();
-        let end = curve::put(&mut text, curves[k]);
+        let end = curve::put(&mut text, *curve);
         out.write_all(&text[..end])?;
     }
     Ok(())
@@ -38,9 +36,9 @@ fn report_on(rt: &(impl Files + Print), name: &[u8]) -> io::Result<()> {
     let n = outside::read(rt, name, &mut image);
     let answer = answer::to(&image[..n]);
     let mut text = outside::buffer();
-    let end = beginning::put(&mut text, answer);
+    let end = beginning::put(&mut text, &answer);
     rt.write_all(&text[..end])?;
-    write_curves(rt, answer)
+    write_curves(rt, &answer)
 }
 
 fn main(rt: HostRuntime) -> io::Result<()> {

@@ -10,18 +10,10 @@ pub fn highest_named(parts: Parts) -> u8
     requires { parts.element_count ≤ branch_limit }
     ensures { result ≡ highest_named parts }
 {
-    let n = parts.element_count as usize;
+    let elements = parts.elements;
     let mut highest = parts.output;
-    let mut j: usize = 0;
-    while j < n {
-        let e = parts.elements[j];
-        if highest < e.p {
-            highest = e.p;
-        }
-        if highest < e.q {
-            highest = e.q;
-        }
-        j += 1;
+    for e in &elements[..parts.element_count as usize] {
+        highest = highest.max(e.p.max(e.q));
     }
     highest
 }

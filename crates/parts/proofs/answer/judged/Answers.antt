@@ -5,7 +5,7 @@ use Rattle.parts.proofs.answer.judged.Goals as goal
 
 pub returns-then-not-conductances_fit : goal.returns-then-not-conductances_fit
 unfolding judged_outcome
-returns-then-not-conductances_fit c = rw (sym c.conductances_fit.ensures ∙ c.if-not-conductances_fit.true, c.from.ensures)
+returns-then-not-conductances_fit c = rw (sym c.conductances_fit.ensures ∙ c.if-not-conductances_fit.true)
 
 pub returns-then-highest_named-parts : goal.returns-then-highest_named-parts
 unfolding judged_outcome

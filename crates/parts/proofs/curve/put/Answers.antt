@@ -8,7 +8,7 @@ use Rattle.parts.proofs.curve.put.Goals as goal
 
 pub returns : goal.returns
 returns c =
-    let slope = c.whole_slope in
+    let slope = c.from in
     let e : to_z w64 (of_z w64 slope.result) ≡ slope.result = search rules in
     let last = rw (e, slope.ensures) at c.put_spaced-c.ensures in
     adds_within (omega arith) (adds_then c.put_word-a.ensures (adds_then c.put_stretches-b.ensures (adds_then last c.put_word.ensures)))
