@@ -79,10 +79,8 @@ fn main(rt: HostRuntime) -> io::Result<()> {
             break;
         };
         let mut drives = outside::buffer();
-        let m = match outside::argument(&rt, 2 * j + 2, &mut drives) {
-            Some(m) => m,
-            None => 0,
-        };
+        // a second name that is missing counts as empty
+        let m = outside::argument(&rt, 2 * j + 2, &mut drives).unwrap_or(0);
         render(&rt, &image[..n], &drives[..m])?;
     }
     Ok(())

@@ -13,10 +13,8 @@ pub fn put_lines(text: &mut [u8], outputs: &[u8], n: usize) -> usize
     ensures { Adds (lines (output_at outputs.now) n) (22 * n) 0 text.old result text.new }
 {
     let mut end: usize = 0;
-    let mut j: usize = 0;
-    while j < n {
+    for j in 0..n {
         end = text::put_line(text, end, bytes::signed_at::<4>(outputs, 4 * j));
-        j += 1;
     }
     end
 }

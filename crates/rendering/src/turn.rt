@@ -61,11 +61,10 @@ pub fn play(image: &[u8], state: State, drives: &[u8], text: &mut [u8]) -> Turn
     let mut outputs = [0u8; 4096];
     let played = block::block(image, state, n, drives, &mut outputs);
     let length = lines::put_lines(text, &outputs, played.count as usize);
-    let after = played.state;
     Turn {
         number: played.number,
         count: played.count,
-        length: length,
-        state: after,
+        length,
+        state: played.state,
     }
 }

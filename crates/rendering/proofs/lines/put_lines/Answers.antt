@@ -1,4 +1,4 @@
-use mathlib.Core.Path.{◌≡◌, refl}
+use mathlib.Core.Path.{◌≡◌}
 use mir.Syntax.{w64}
 use mir.Val.{to_z, of_z}
 use Rattle.block.specs.Host.{output_at}
@@ -7,7 +7,7 @@ use borrow.Author.Rules.{rules}
 use Rattle.rendering.proofs.lines.put_lines.Goals as goal
 
 pub loop-j-init : goal.loop-j-init
-loop-j-init c = (search rules, refl, lines_none (output_at c.args.outputs.now))
+loop-j-init c = lines_none (output_at c.args.outputs.now)
 
 pub loop-j-preserved : goal.loop-j-preserved
 loop-j-preserved c =
@@ -17,4 +17,4 @@ loop-j-preserved c =
     let z = i.result in
     let e : to_z w64 (of_z w64 z) ≡ z = search rules in
     let line = rw (e, i.ensures) at p.ensures in
-    (search rules, search rules, lines_more (output_at c.args.outputs.now) l.j l.invariant.2 line)
+    lines_more (output_at c.args.outputs.now) l.j l.invariant line

@@ -1,13 +1,8 @@
-use mathlib.Core.Path.{◌≡◌}
-use Prim.Native.Nat.{◌*◌, ◌-◌, ◌≤◌}
-use lib.ListN.{length}
+use Prim.Native.Nat.{◌*◌}
 use Rattle.console.specs.Text.{Adds}
 use Rattle.block.specs.Host.{output_at}
 use Rattle.rendering.specs.Rendering.{lines}
 use Rattle.rendering.proofs.lines.put_lines.Given as goal
 
 abbrev pub invariant-loop-j : goal.invariant-loop-j
-invariant-loop-j l = (l.j ≤ l.n) × (length l.text ≡ length l.initial.text) × Adds (lines (output_at l.outputs) l.j) (22 * l.j) 0 l.initial.text l.end l.text
-
-abbrev pub decreases-loop-j : goal.decreases-loop-j
-decreases-loop-j l = l.n - l.j
+invariant-loop-j l = Adds (lines (output_at l.outputs) l.j) (22 * l.j) 0 l.initial.text l.end l.text
