@@ -4,7 +4,7 @@
 ghost use Rattle.std.specs.Prelude.{◌<◌, ◌≤◌};
 ghost use Rattle.circuit.specs.Board.{nodes_on, driven_on, count_on, Laid, Ranged, Evaluable};
 
-use crate::matrix::{self, Matrix, Singular};
+use crate::matrix::{self, Ends, Matrix, Singular};
 use crate::memory::Memory;
 use crate::rows::Rows;
 use crate::tangent::{self, Tangent};
@@ -28,6 +28,16 @@ fn leaks(circuit: &Circuit) -> Matrix
     m
 }
 
+// The nodes that element j joins.
+fn ends(circuit: &Circuit, j: usize) -> Ends
+    requires { Laid circuit.now.board circuit.now.stretches × (j < count_on circuit.now.board) }
+{
+    Ends {
+        p: circuit.end_p(j),
+        q: circuit.end_q(j),
+    }
+}
+
 // All tangents at these voltages, and the matrix of their slopes.
 fn drawn(
     circuit: &Circuit,
@@ -40,7 +50,7 @@ fn drawn(
     let mut m = leaks(circuit);
     for j in 0..circuit.count() {
         let t = tangent::of_element(circuit, stored, volts, j);
-        matrix::join(&mut m, circuit.end_p(j), circuit.end_q(j), t.slope);
+        matrix::join(&mut m, ends(circuit, j), t.slope);
         lines[j] = t;
     }
     m
@@ -123,11 +133,10 @@ fn retake(
     if more == 0.0 {
         return Ok(());
     }
-    let p = circuit.end_p(j);
-    let q = circuit.end_q(j);
-    matrix::join(&mut memory.slopes, p, q, more);
+    let ends = ends(circuit, j);
+    matrix::join(&mut memory.slopes, ends, more);
     memory.updated();
-    matrix::update(&mut memory.inverse, p, q, more, Rows::free(circuit))
+    matrix::update(&mut memory.inverse, ends, more, Rows::free(circuit))
 }
 
 // .. so every curve.

@@ -20,10 +20,19 @@ pub struct Singular;
 // An update of the inverse whose divisor is no larger than this would lose too many digits.
 const LEAST_DIVISOR: f64 = 0.01;
 
-// An element of this slope joins the nodes p and q. Ground has no row.
-pub fn join(m: &mut Matrix, p: usize, q: usize, slope: f64)
-    requires { (p ≤ 15) × (q ≤ 15) }
-{
+// The nodes at an element's two ends.
+#[derive(Clone, Copy)]
+pub struct Ends {
+    pub p: usize,
+    pub q: usize,
+    pub ghost p_there: { p ≤ 15 },
+    pub ghost q_there: { q ≤ 15 },
+}
+
+// An element of this slope joins two nodes. Ground has no row.
+pub fn join(m: &mut Matrix, ends: Ends, slope: f64) {
+    let p = ends.p;
+    let q = ends.q;
     if 0 < p {
         m[p - 1][p - 1] += slope;
     }
@@ -102,25 +111,21 @@ pub fn inverse(m: &Matrix, rows: Rows) -> Result<Matrix, Singular> {
 }
 
 // How the nodes answer to a current that is taken out of q and into p. A fixed node has no row.
-fn answers(inverse: &Matrix, p: usize, q: usize, first: usize) -> Vector
-    requires { (p ≤ 15) × (q ≤ 15) }
-{
+fn answers(inverse: &Matrix, ends: Ends, first: usize) -> Vector {
     let mut w = [0.0f64; 15];
-    if first < p {
-        add(&inverse[p - 1], 1.0, &mut w);
+    if first < ends.p {
+        add(&inverse[ends.p - 1], 1.0, &mut w);
     }
-    if first < q {
-        add(&inverse[q - 1], -1.0, &mut w);
+    if first < ends.q {
+        add(&inverse[ends.q - 1], -1.0, &mut w);
     }
     w
 }
 
 // What stands between p and q then.
-fn between(w: &Vector, p: usize, q: usize, first: usize) -> f64
-    requires { (p ≤ 15) × (q ≤ 15) }
-{
-    let at_p = if first < p { w[p - 1] } else { 0.0 };
-    let at_q = if first < q { w[q - 1] } else { 0.0 };
+fn between(w: &Vector, ends: Ends, first: usize) -> f64 {
+    let at_p = if first < ends.p { w[ends.p - 1] } else { 0.0 };
+    let at_q = if first < ends.q { w[ends.q - 1] } else { 0.0 };
     at_p - at_q
 }
 
@@ -131,18 +136,10 @@ fn take_product(a: &mut Matrix, w: &Vector, f: f64, rows: Rows) {
     }
 }
 
-// The inverse after the slope between p and q has grown by this much: a change of rank one.
-pub fn update(
-    inverse: &mut Matrix,
-    p: usize,
-    q: usize,
-    slope: f64,
-    rows: Rows,
-) -> Result<(), Singular>
-    requires { (p ≤ 15) × (q ≤ 15) }
-{
-    let w = answers(inverse, p, q, rows.first);
-    let divisor = 1.0 + slope * between(&w, p, q, rows.first);
+// The inverse after the slope between two nodes has grown by this much: a change of rank one.
+pub fn update(inverse: &mut Matrix, ends: Ends, slope: f64, rows: Rows) -> Result<(), Singular> {
+    let w = answers(inverse, ends, rows.first);
+    let divisor = 1.0 + slope * between(&w, ends, rows.first);
     if !(LEAST_DIVISOR < divisor) {
         return Err(Singular);
     }
