@@ -48,8 +48,8 @@ pub fn join(m: &mut Matrix, ends: Ends, slope: f64) {
 // A vector, f times, is added to another. All 15 places, whatever the circuit's size: a loop of known
 // length is unrolled.
 pub fn add(v: &Vector, f: f64, sums: &mut Vector) {
-    for k in 0..15 {
-        sums[k] += f * v[k];
+    for (sum, x) in sums.iter_mut().zip(v) {
+        *sum += f * *x;
     }
 }
 
@@ -67,30 +67,22 @@ fn scale(a: &mut Matrix, k: usize, f: f64)
     requires { k < 15 }
 {
     a[k][k] = 1.0;
-    for j in 0..15 {
-        a[k][j] *= f;
+    for x in a[k].iter_mut() {
+        *x *= f;
     }
 }
 
-// Row k is taken off row i as often as column k has it, unless that is never: most circuits are sparse.
-fn clear_at(a: &mut Matrix, i: usize, k: usize, row: &Vector)
-    requires { (i < 15) × (k < 15) }
-{
-    let f = a[i][k];
-    if f != 0.0 {
-        a[i][k] = 0.0;
-        add(row, -f, &mut a[i]);
-    }
-}
-
-// .. off every other row.
+// Row k is taken off every other row as often as its column k has it, unless that is never: most circuits
+// are sparse.
 fn clear(a: &mut Matrix, k: usize, rows: Rows)
     requires { k < 15 }
 {
     let row = a[k];
     for i in rows.first..rows.end {
-        if i != k {
-            clear_at(a, i, k, &row);
+        let f = a[i][k];
+        if i != k && f != 0.0 {
+            a[i][k] = 0.0;
+            add(&row, -f, &mut a[i]);
         }
     }
 }
