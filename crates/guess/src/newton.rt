@@ -56,14 +56,10 @@ fn entering(circuit: &Circuit, stored: &[i64; 32], volts: &[i64; 16]) -> Vector
 }
 
 // The largest of them, either way.
-fn largest(circuit: &Circuit, enters: Vector) -> f64
-    requires { nodes_on circuit.now.board ≤ 15 }
-{
-    let mut most: f64 = 0.0;
-    for k in circuit.driven()..circuit.nodes() {
-        most = larger(most, whole::size(enters[k]));
-    }
-    most
+fn largest(enters: &Vector) -> f64 {
+    enters
+        .iter()
+        .fold(0.0, |most, x| larger(most, whole::size(*x)))
 }
 
 // A step within the range, to one side or the other.
@@ -181,7 +177,7 @@ fn end(
 {
     let mut whole = ties::cut(memory, x, Rows::free(circuit));
     go(circuit, 1.0, &mut whole, volts);
-    largest(circuit, entering(circuit, stored, volts))
+    largest(&entering(circuit, stored, volts))
 }
 
 // The rounds and then whole microvolts.

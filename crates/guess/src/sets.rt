@@ -4,6 +4,7 @@
 ghost use Rattle.std.specs.Prelude.{◌<◌};
 
 use crate::rows;
+use std::array;
 
 // Of each row: the set that it is in, the row that stands for the set of its number, that set's root, and
 // whether the row is spared.
@@ -17,10 +18,7 @@ pub struct Sets {
 impl Sets {
     // Every row is a set of its own.
     pub fn alone() -> Sets {
-        let mut own = [0usize; 15];
-        for k in 0..15 {
-            own[k] = k;
-        }
+        let own = array::from_fn(|k| k);
         Sets {
             set: own,
             root: own,
@@ -48,9 +46,9 @@ impl Sets {
     {
         let from = self.set[spared];
         let to = rows::row(self.set[keeps]);
-        for k in 0..15 {
-            if self.set[k] == from {
-                self.set[k] = to;
+        for set in self.set.iter_mut() {
+            if *set == from {
+                *set = to;
             }
         }
         self.root[to] = keeps;
