@@ -16,12 +16,6 @@ returns-then-at_top c =
     let a = c.args in
     (omega arith, top_refused a.circuit.now.board a.circuit.now.stretches a.given.now a.stored.now c.requires.1 c.solve.new.at.volts c.in_ok-solve.ensures (rw c.if-at_top.true at c.at_top.ensures))
 
-pub advance-requires : goal.advance-requires
-advance-requires c =
-    let a = c.args in
-    let p = c.requires.0 in
-    (record { ready = p.ready; kept = p.kept; ranged = answer_ranged a.circuit.now.board a.circuit.now.stretches a.given.now a.stored.now c.requires.1 c.solve.new.at.volts c.in_ok-solve.ensures }, p.long)
-
 pub returns-in-Ok : goal.returns-in-Ok
 returns-in-Ok c =
     let below : TopTested c.args.circuit.now.board c.solve.new.at.volts false = rw c.if-at_top.false at c.at_top.ensures in

@@ -15,14 +15,3 @@ pub loop-sweeps-preserved : goal.loop-sweeps-preserved
 loop-sweeps-preserved c =
     let k = rw c.if-branch.true at c.in_ok-descend.ensures in
     (k.0, down_more c.loop-sweeps.invariant.1 k.1.down)
-
-pub loop-sweeps-smaller-then-sweeps-lt2 : goal.loop-sweeps-smaller-then-sweeps-lt2
-loop-sweeps-smaller-then-sweeps-lt2 c = let k = rw c.if-branch.true at c.in_ok-descend.ensures in k.1.falls
-
-pub loop-sweeps-smaller : goal.loop-sweeps-smaller
-loop-sweeps-smaller c = let k = rw c.if-branch.true at c.in_ok-descend.ensures in k.1.falls
-
-pub returns : goal.returns
-returns c =
-    let k = rw c.if-branch.false at c.in_ok-descend.ensures in
-    (k.0, (rw k.1.0 c.loop-sweeps.invariant.1, rw k.1.0 k.1.1))

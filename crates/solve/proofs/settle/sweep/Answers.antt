@@ -9,6 +9,3 @@ returns-in_err-moved c =
 
 pub loop-i-preserved : goal.loop-i-preserved
 loop-i-preserved c = let k = c.in_ok-moved.ensures in swept_more c.loop-i.invariant k.0 c.in_ok-moved.field-0 k.1
-
-pub returns : goal.returns
-returns c = (c.loop-i.invariant.searching, swept_all c.loop-i.invariant (omega (arith, c.nodes-nodes.ensures)))
