@@ -78,7 +78,8 @@ fn land_at(
     if volts[i] <= u {
         return true;
     }
-    if far.nets[i] <= 0 {
+    let high = 0 < far.nets[i];
+    if !high {
         return false;
     }
     let down = signed::minus(u, 1);
