@@ -27,39 +27,30 @@ fn drive(k: u64) -> i64 {
 
 // What proposal number `which` has at a node whose last answer was v.
 fn proposal(which: u64, v: i64) -> i64 {
-    if which == 0 {
-        return v;
-    }
-    if which == 1 {
-        return 0;
-    }
-    if which == 2 {
-        return Voltage::LIMIT;
-    }
-    if which == 3 {
-        return -Voltage::LIMIT;
-    }
-    if which == 4 {
-        if signed::size(v) < 1000000000 {
-            return signed::plus(v, 1);
+    match which {
+        0 => v,
+        1 => 0,
+        2 => Voltage::LIMIT,
+        3 => -Voltage::LIMIT,
+        4 => {
+            if signed::size(v) < 1000000000 {
+                return signed::plus(v, 1);
+            }
+            1
         }
-        return 1;
-    }
-    if which == 5 {
-        if signed::size(v) < 1000000000 {
-            return signed::minus(v, 1);
+        5 => {
+            if signed::size(v) < 1000000000 {
+                return signed::minus(v, 1);
+            }
+            0
         }
-        return 0;
+        _ => i64::MAX,
     }
-    9223372036854775807
 }
 
 // The proposal at every place, and the drive d at the driven node, where there is one.
 fn propose(which: u64, driven: usize, d: i64, last: &[i64; 16]) -> [i64; 16] {
-    let mut volts = [0i64; 16];
-    for i in 0..16usize {
-        volts[i] = proposal(which, last[i]);
-    }
+    let mut volts = last.map(|v| proposal(which, v));
     if driven != 0 {
         volts[1] = d;
     }
@@ -67,30 +58,18 @@ fn propose(which: u64, driven: usize, d: i64, last: &[i64; 16]) -> [i64; 16] {
 }
 
 // One sample on a copy of the stored currents: its number.
-fn attempt(circuit: &Circuit, stored: &[i64; 32], volts: &mut [i64; 16]) -> u64
+fn attempt(circuit: &Circuit, stored: &[i64; 32], volts: &mut [i64; 16]) -> Number
     requires { Playable circuit.now.board circuit.now.stretches stored.now }
 {
     let mut x = *stored;
-    u64::from(sample::sample(circuit, volts, &mut x))
-}
-
-// Whether nodes stand alike, up to the last that is there.
-fn alike(nodes: usize, a: &[i64; 16], b: &[i64; 16]) -> bool {
-    for i in 0..16usize {
-        if i <= nodes {
-            if a[i] != b[i] {
-                return false;
-            }
-        }
-    }
-    true
+    sample::sample(circuit, volts, &mut x)
 }
 
 // Whether all proposals come to the same: one number, and one answer where there is any.
 fn agree(circuit: &Circuit, stored: &[i64; 32], d: i64, last: &[i64; 16]) -> bool
     requires { Playable circuit.now.board circuit.now.stretches stored.now }
 {
-    let nodes = circuit.nodes();
+    let end = circuit.nodes() + 1;
     let driven = circuit.driven();
     let mut first = propose(0, driven, d, last);
     let number = attempt(circuit, stored, &mut first);
@@ -99,7 +78,7 @@ fn agree(circuit: &Circuit, stored: &[i64; 32], d: i64, last: &[i64; 16]) -> boo
         if attempt(circuit, stored, &mut other) != number {
             return false;
         }
-        if (number == 0) & !alike(nodes, &first, &other) {
+        if number == Number::Done && first[..end] != other[..end] {
             return false;
         }
     }
@@ -107,14 +86,14 @@ fn agree(circuit: &Circuit, stored: &[i64; 32], d: i64, last: &[i64; 16]) -> boo
 }
 
 // A sample on the stored currents themselves, from the last answer: its number.
-fn advanced(circuit: &Circuit, stored: &mut [i64; 32], d: i64, last: &mut [i64; 16]) -> u64
+fn advanced(circuit: &Circuit, stored: &mut [i64; 32], d: i64, last: &mut [i64; 16]) -> Number
     requires { Playable circuit.now.board circuit.now.stretches stored.old }
     ensures { Playable circuit.now.board circuit.now.stretches stored.new }
 {
     let mut volts = propose(0, circuit.driven(), d, last);
-    let r = sample::sample(circuit, &mut volts, stored);
+    let number = sample::sample(circuit, &mut volts, stored);
     *last = volts;
-    u64::from(r)
+    number
 }
 
 // One more voltage in a checksum.
@@ -122,44 +101,20 @@ fn mixed(sum: u64, v: i64) -> u64 {
     ((sum % 1000000007) * 31 + signed::size(v) % 1000000007) % 1000000007
 }
 
-// All nodes in it.
-fn mixed_all(sum: u64, nodes: usize, volts: &[i64; 16]) -> u64 {
-    let mut s = sum;
-    for i in 0..16usize {
-        if i <= nodes {
-            s = mixed(s, volts[i]);
-        }
-    }
-    s
-}
-
-// The voltages of all nodes.
-fn show(out: Stdout, nodes: usize, volts: &[i64; 16]) -> io::Result<()> {
-    for i in 0..16usize {
-        if i <= nodes {
-            print!(out; " {}", volts[i])?;
-        }
+// These voltages, or stored currents.
+fn show(out: Stdout, numbers: &[i64]) -> io::Result<()> {
+    for n in numbers {
+        print!(out; " {n}")?;
     }
     Ok(())
 }
 
-// The stored currents of all elements.
-fn show_stored(out: Stdout, count: usize, stored: &[i64; 32]) -> io::Result<()> {
-    print!(out; ", stored")?;
-    for j in 0..32usize {
-        if j < count {
-            print!(out; " {}", stored[j])?;
-        }
-    }
-    print!(out; "\n")
-}
-
-fn refused(out: Stdout, number: u64) -> io::Result<()> {
-    print!(out; " refused {number}")
+fn refused(out: Stdout, number: Number) -> io::Result<()> {
+    print!(out; " refused {}", u64::from(number))
 }
 
 // .. where there is no more to say.
-fn stopped(out: Stdout, number: u64) -> io::Result<()> {
+fn stopped(out: Stdout, number: Number) -> io::Result<()> {
     refused(out, number)?;
     print!(out; "\n")
 }
@@ -168,16 +123,16 @@ fn differ(out: Stdout) -> io::Result<()> {
     println!(out; " differ")
 }
 
-fn agreed(out: Stdout, sum: u64, nodes: usize, last: &[i64; 16]) -> io::Result<()> {
+fn agreed(out: Stdout, sum: u64, volts: &[i64]) -> io::Result<()> {
     print!(out; " agree, sum {sum}, last")?;
-    show(out, nodes, last)?;
+    show(out, volts)?;
     print!(out; "\n")
 }
 
 // The number of a refused sample, or an accepted one's voltages.
-fn tell(out: Stdout, number: u64, nodes: usize, volts: &[i64; 16]) -> io::Result<()> {
-    if number == 0 {
-        show(out, nodes, volts)
+fn tell(out: Stdout, number: Number, volts: &[i64]) -> io::Result<()> {
+    if number == Number::Done {
+        show(out, volts)
     } else {
         refused(out, number)
     }
@@ -187,7 +142,7 @@ fn tell(out: Stdout, number: u64, nodes: usize, volts: &[i64; 16]) -> io::Result
 fn samples(out: Stdout, circuit: &Circuit, stored: &mut [i64; 32], n: u64) -> io::Result<()>
     requires { Playable circuit.now.board circuit.now.stretches stored.old }
 {
-    let nodes = circuit.nodes();
+    let end = circuit.nodes() + 1;
     let mut last = [0i64; 16];
     let mut sum: u64 = 1;
     for k in 0..n {
@@ -195,12 +150,12 @@ fn samples(out: Stdout, circuit: &Circuit, stored: &mut [i64; 32], n: u64) -> io
             return differ(out);
         }
         let number = advanced(circuit, stored, drive(k), &mut last);
-        if number != 0 {
+        if number != Number::Done {
             return stopped(out, number);
         }
-        sum = mixed_all(sum, nodes, &last);
+        sum = last[..end].iter().fold(sum, |s, v| mixed(s, *v));
     }
-    agreed(out, sum, nodes, &last)
+    agreed(out, sum, &last[..end])
 }
 
 // One sample of drive d: from all proposals, those beside its own answer among them.
@@ -212,8 +167,10 @@ fn once(out: Stdout, circuit: &Circuit, stored: &mut [i64; 32], d: i64) -> io::R
     attempt(circuit, stored, &mut last);
     if agree(circuit, stored, d, &last) {
         let number = advanced(circuit, stored, d, &mut last);
-        tell(out, number, circuit.nodes(), &last)?;
-        show_stored(out, circuit.count(), stored)
+        tell(out, number, &last[..circuit.nodes() + 1])?;
+        print!(out; ", stored")?;
+        show(out, &stored[..circuit.count()])?;
+        print!(out; "\n")
     } else {
         differ(out)
     }
@@ -237,7 +194,7 @@ fn opened(out: Stdout, parts: Parts, n: u64, at: usize, x: i64, d: i64) -> io::R
     requires { Sound parts }
 {
     if !image::conductances_fit(parts) {
-        return stopped(out, u64::from(Number::Conductance));
+        return stopped(out, Number::Conductance);
     }
     let circuit = opening::circuit(parts);
     let mut stored = charged(at, x);
@@ -252,7 +209,7 @@ fn opened(out: Stdout, parts: Parts, n: u64, at: usize, x: i64, d: i64) -> io::R
 fn played(out: Stdout, image: &[u8], n: u64, at: usize, x: i64, d: i64) -> io::Result<()> {
     match image::read(image) {
         Ok(parts) => opened(out, parts, n, at, x, d),
-        Err(number) => stopped(out, u64::from(number)),
+        Err(number) => stopped(out, number),
     }
 }
 
