@@ -25,13 +25,6 @@ use Rattle.solve.proofs.PlaceLaws.{set_cases, short_of}
 
 -- ---- where it leads
 
--- the way fits
-pub way_fits : (b v : ℤ) (m : ℕ) → InRange b → InRange v → m ≤ 2 ^ 26 → m * nat_abs (b -ℤ v) ≤ 2 ^ 52
-way_fits b v m rb rv small =
-    let h : nat_abs (b -ℤ v) ≤ 2 ^ 26 = omega (arith, abs_sub b v) in
-    let p : m * nat_abs (b -ℤ v) ≤ 2 ^ 26 * 2 ^ 26 = mul-le-mul small h in
-    omega arith
-
 pub reached_here : {v : ℤ} → InRange v → Reached v v
 reached_here inside = record { ranged = inside; down = omega signs; room = inl refl }
 

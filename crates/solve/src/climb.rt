@@ -107,7 +107,8 @@ fn raise(circuit: &Circuit, stored: &[i64; 32], volts: &[i64; 16], t: u64, high:
     }
 }
 
-// Climb: certified, or higher and certified again.
+// Climb: certified, or higher and certified again. Settle finds something each time, as what certify came to is
+// low and in range: its answer is never an error.
 pub fn climb(circuit: &Circuit, stored: &[i64; 32], at: &mut Point)
     requires { Searching circuit.now.board circuit.now.stretches stored.now at.old.volts at.old.nets × Low (network_on circuit.now.board circuit.now.stretches) (reading stored.now) (reading at.old.volts) }
     ensures { Topped circuit.now.board circuit.now.stretches stored.now at.old.volts at.new.volts }
