@@ -12,35 +12,26 @@ use Rattle.network.specs.Network.{conductance, curve, pick, reading, current, co
 use Rattle.network.proofs.Ranges.{difference_fits, current_fits}
 use Rattle.network.specs.Kind.{has_curve}
 use Rattle.stretch.specs.Stretch.{slopes_in, breakpoints_in, curve_current}
-use Rattle.circuit.specs.declared.branch.End.{End}
-use Rattle.circuit.specs.declared.branch.End.TheVariants.{P, Q, Neither}
+use Rattle.std.specs.Prelude.{Some, None}
+use Rattle.circuit.specs.declared.branch.End.TheVariants.{P, Q}
 use Rattle.circuit.specs.Board.{nodes_on, count_on, kind_on, p_on, q_on, conductance_on, first_on, breakpoints_on, branch_on, network_on, plain_conductance, Laid, Ranged, Evaluable, Ends, across_on, flow_on, other_on}
 
 -- ---- which end a node is
 
--- the three are told apart
-code : End → ℕ
-code P = 0
-code Q = 1
-code Neither = 2
-
 module _ {ℓ} {A : Type ℓ} (a b c : A) where
-  pub end_p : (s t : Bool) → P ≡ pick s t P Q Neither → pick s t a b c ≡ a
-  unfolding code
+  pub end_p : (s t : Bool) → Some P ≡ pick s t (Some P) (Some Q) None → pick s t a b c ≡ a
   end_p true t e = refl
-  end_p false true e = absurd (omega (arith, ap code e))
-  end_p false false e = absurd (omega (arith, ap code e))
+  end_p false true e = absurd cc
+  end_p false false e = absurd cc
 
-  pub end_q : (s t : Bool) → Q ≡ pick s t P Q Neither → pick s t a b c ≡ b
-  unfolding code
-  end_q true t e = absurd (omega (arith, ap code e))
+  pub end_q : (s t : Bool) → Some Q ≡ pick s t (Some P) (Some Q) None → pick s t a b c ≡ b
+  end_q true t e = absurd cc
   end_q false true e = refl
-  end_q false false e = absurd (omega (arith, ap code e))
+  end_q false false e = absurd cc
 
-  pub end_neither : (s t : Bool) → Neither ≡ pick s t P Q Neither → pick s t a b c ≡ c
-  unfolding code
-  end_neither true t e = absurd (omega (arith, ap code e))
-  end_neither false true e = absurd (omega (arith, ap code e))
+  pub end_neither : (s t : Bool) → None ≡ pick s t (Some P) (Some Q) None → pick s t a b c ≡ c
+  end_neither true t e = absurd cc
+  end_neither false true e = absurd cc
   end_neither false false e = refl
 
 -- ---- element j

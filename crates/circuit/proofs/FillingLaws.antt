@@ -19,7 +19,8 @@ use Rattle.network.specs.Network.{Network}
 use Rattle.network.specs.Elements.{touches, elements_at}
 use Rattle.circuit.specs.Index.{end_number, ends_at, ends_below, index_size, index_number, index_of}
 use Rattle.circuit.specs.Board.{board_size, p_on, q_on, start_on, end_on, branch_on, network_on, end_at, Unindexed}
-use Rattle.circuit.specs.declared.branch.End.TheVariants.{P, Q, Neither}
+use Rattle.std.specs.Prelude.{Some, None}
+use Rattle.circuit.specs.declared.branch.End.TheVariants.{P, Q}
 use Rattle.circuit.proofs.BoardLaws.{end_p, end_q, end_neither}
 use Rattle.circuit.proofs.IndexLaws.{ends_none, ends_more, ends_long, ends_few}
 
@@ -41,23 +42,23 @@ module _ (board : List ℕ) (stretches : List ℤ) (i j : ℕ) where
   abbrev t : Bool
   t = eqb i (q_on board j)
 
-  pub touching_p : P ≡ end_at board j i → touches (network_on board stretches) i j ≡ true
+  pub touching_p : Some P ≡ end_at board j i → touches (network_on board stretches) i j ≡ true
   unfolding branch_on
   touching_p e = end_p true true false s t e
 
-  pub touching_q : Q ≡ end_at board j i → touches (network_on board stretches) i j ≡ true
+  pub touching_q : Some Q ≡ end_at board j i → touches (network_on board stretches) i j ≡ true
   unfolding branch_on
   touching_q e = end_q true true false s t e
 
-  pub touching_neither : Neither ≡ end_at board j i → touches (network_on board stretches) i j ≡ false
+  pub touching_neither : None ≡ end_at board j i → touches (network_on board stretches) i j ≡ false
   unfolding branch_on
   touching_neither e = end_neither true true false s t e
 
-  number_p : P ≡ end_at board j i → 2 * j ≡ end_number (network_on board stretches) i j
+  number_p : Some P ≡ end_at board j i → 2 * j ≡ end_number (network_on board stretches) i j
   unfolding branch_on
   number_p e = omega (arith, end_p {A = ℕ} 0 1 0 s t e)
 
-  number_q : Q ≡ end_at board j i → 2 * j + 1 ≡ end_number (network_on board stretches) i j
+  number_q : Some Q ≡ end_at board j i → 2 * j + 1 ≡ end_number (network_on board stretches) i j
   unfolding branch_on
   number_q e = omega (arith, end_q {A = ℕ} 0 1 0 s t e)
 
@@ -65,15 +66,15 @@ module _ (board : List ℕ) (stretches : List ℤ) (i j : ℕ) where
   abbrev Put : ℕ → List ℕ → Type 0
   Put k after = after ≡ overlaid board (37 + k) (map (end_number (network_on board stretches) i) (cond (touches (network_on board stretches) i j) (j ∷ []) []))
 
-  pub put_p : (k : ℕ) → P ≡ end_at board j i → Put k (set board (37 + k) (2 * j))
+  pub put_p : (k : ℕ) → Some P ≡ end_at board j i → Put k (set board (37 + k) (2 * j))
   unfolding overlaid
   put_p k e = rw (touching_p e) (ap (set board (37 + k)) (number_p e))
 
-  pub put_q : (k : ℕ) → Q ≡ end_at board j i → Put k (set board (37 + k) (2 * j + 1))
+  pub put_q : (k : ℕ) → Some Q ≡ end_at board j i → Put k (set board (37 + k) (2 * j + 1))
   unfolding overlaid
   put_q k e = rw (touching_q e) (ap (set board (37 + k)) (number_q e))
 
-  pub put_neither : (k : ℕ) → Neither ≡ end_at board j i → Put k board
+  pub put_neither : (k : ℕ) → None ≡ end_at board j i → Put k board
   unfolding overlaid
   put_neither k e = rw (touching_neither e)
 

@@ -2,14 +2,14 @@
 -- stretches (Stretch). Assumes nothing.
 -- Places 0 to 3: leak, nodes, driven nodes, elements. Then the steepest sum of every node, and the index (Index). Then six places for each
 -- element: kind, end p, end q, conductance (0 where it has a curve), and for a curve the row of its first stretch and how many breakpoints it has.
-use Rattle.std.specs.Prelude.{◌≡◌, true, cond, List, ℕ, ◌+◌, ◌*◌, ◌-◌, ◌/◌, ◌%◌, ◌≤◌, ◌<◌, ℤ, neg_ℤ, ◌-ℤ◌, eqb, leb, length, get_or}
+use Rattle.std.specs.Prelude.{◌≡◌, Option, None, Some, true, cond, List, ℕ, ◌+◌, ◌*◌, ◌-◌, ◌/◌, ◌%◌, ◌≤◌, ◌<◌, ℤ, neg_ℤ, ◌-ℤ◌, eqb, leb, length, get_or}
 use Rattle.units.specs.Voltage.{Within, InRange}
 use Rattle.network.specs.Network.{Law, curve, conductance, current, pick, Branch, Network, Free, reading, steepest, InLimits, stored_limit}
 use Rattle.network.specs.Kind.{has_curve, store_of}
 use Rattle.network.specs.Elements.{touches}
 use Rattle.stretch.specs.Stretch.{slopes_in, breakpoints_in, CurveReady}
 use Rattle.circuit.specs.declared.branch.End.{End}
-use Rattle.circuit.specs.declared.branch.End.TheVariants.{P, Q, Neither}
+use Rattle.circuit.specs.declared.branch.End.TheVariants.{P, Q}
 use Rattle.circuit.specs.Index.{end_number, index_size, index_number}
 
 -- how many places it has
@@ -128,8 +128,8 @@ abbrev pub flow_on : List ℕ → List ℤ → List ℤ → List ℤ → ℕ →
 flow_on board stretches stored volts j = current 1 (branch_on board stretches j).law (reading stored j) (across_on board volts j)
 
 -- which end of element j node i is
-abbrev pub end_at : List ℕ → ℕ → ℕ → End
-end_at board j i = pick (eqb i (p_on board j)) (eqb i (q_on board j)) P Q Neither
+abbrev pub end_at : List ℕ → ℕ → ℕ → Option End
+end_at board j i = pick (eqb i (p_on board j)) (eqb i (q_on board j)) (Some P) (Some Q) None
 
 -- the node at an end, the one at the other end of its element, and what leaves the node at an end by that element
 abbrev pub node_on : List ℕ → ℕ → ℕ

@@ -8,27 +8,27 @@ use crate::Circuit;
 use network::kind;
 use stretch::curve::Curve;
 
-// Which end of an element a node is.
+// The two ends of an element.
 #[derive(Clone, Copy)]
 pub enum End {
     P,
     Q,
-    Neither,
 }
 
 impl Circuit {
-    // Asked for the index alone, which tells from then on which elements a node has.
-    pub fn end_at(&self, j: usize, node: usize) -> End
+    // Which end of element j a node is, if it is one. Asked for the index alone, which tells from then on which
+    // elements a node has.
+    pub fn end_at(&self, j: usize, node: usize) -> Option<End>
         requires { j < 32 }
         ensures { result ≡ end_at self.now.board j node }
     {
         if node == self.end_p(j) {
-            return End::P;
+            return Some(End::P);
         }
         if node == self.end_q(j) {
-            return End::Q;
+            return Some(End::Q);
         }
-        End::Neither
+        None
     }
 
     // The curve of element j, which has one.

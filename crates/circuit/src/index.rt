@@ -6,7 +6,8 @@ ghost use Rattle.network.specs.Elements.{touches, elements_at};
 ghost use Rattle.circuit.specs.Index.{end_number, ends_at, index_of};
 ghost use Rattle.circuit.specs.Board.{count_on, network_on, Unindexed};
 
-use crate::{Circuit, branch};
+use crate::Circuit;
+use crate::branch::End;
 
 impl Circuit {
     // The end of element j that node i is, if it is one, goes to place k of the ends. Gives the next free place.
@@ -15,15 +16,15 @@ impl Circuit {
         ensures { (self.new.board ≡ overlaid self.old.board (37 + k) (map (end_number (network_on self.old.board self.old.stretches) i) (cond (touches (network_on self.old.board self.old.stretches) i j) (j ∷ []) []))) × (result ≡ k + cond (touches (network_on self.old.board self.old.stretches) i j) 1 0) × (self.new.stretches ≡ self.old.stretches) }
     {
         match self.end_at(j, i) {
-            branch::End::P => {
+            Some(End::P) => {
                 self.board[37 + k] = 2 * j as u64;
                 k + 1
             }
-            branch::End::Q => {
+            Some(End::Q) => {
                 self.board[37 + k] = 2 * j as u64 + 1;
                 k + 1
             }
-            branch::End::Neither => k,
+            None => k,
         }
     }
 

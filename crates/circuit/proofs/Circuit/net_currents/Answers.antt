@@ -92,7 +92,7 @@ loop-j-preserved c =
       omega (arith, c.loop-j-test.true),
       n.invariant.1,
       subst (λ (p : ℕ). NettedBy c.args.self.now.board c.args.self.now.stretches c.args.stored.now c.args.volts.now (n.j + 1) (set (set n.nets p y) c.end_q-q.result z)) (sym c.end_p-p.ensures)
-      (subst (λ (q : ℕ). NettedBy c.args.self.now.board c.args.self.now.stretches c.args.stored.now c.args.volts.now (n.j + 1) (set (set n.nets (p_on c.args.self.now.board n.j) y) q z)) (sym c.end_q-q.ensures) told),
+          (subst (λ (q : ℕ). NettedBy c.args.self.now.board c.args.self.now.stretches c.args.stored.now c.args.volts.now (n.j + 1) (set (set n.nets (p_on c.args.self.now.board n.j) y) q z)) (sym c.end_q-q.ensures) told),
     )
 
 pub returns : goal.returns
