@@ -7,7 +7,6 @@ ghost use Rattle.circuit.specs.Board.{leak_on, nodes_on, Ranged, Evaluable};
 ghost use Rattle.circuit.specs.Nets.{Leaked, Netted, Moved, Spread};
 
 use crate::Circuit;
-use units::signed;
 
 impl Circuit {
     // What leaves every node by the leak alone.
@@ -57,16 +56,13 @@ impl Circuit {
         ensures { Spread self.now.board self.now.stretches stored.now volts.now i v result nets.new }
     {
         let own = volts[i];
-        let mut sum = signed::plus(
-            nets[i],
-            signed::times(signed::whole(self.leak()), signed::minus(v, own)),
-        );
+        let mut sum = nets[i] + self.leak() as i64 * (v - own);
         for k in self.start(i)..self.start(i + 1) {
             let end = self.end(k);
             let other = self.other(end);
             let more = self.more(stored, volts, own, v, end, other);
-            nets[other] = signed::minus(nets[other], more);
-            sum = signed::plus(sum, more);
+            nets[other] -= more;
+            sum += more;
         }
         sum
     }

@@ -1,4 +1,4 @@
-use Rattle.std.proofs.Common.{◌≡◌, ◌≤◌, ◌∙◌, refl, ap, pos, ◌-ℤ◌, ◌*ℤ◌, arith, rules, w64, to_z, of_z, to_z-of_z}
+use Rattle.std.proofs.Common.{◌≡◌, ◌≤◌, ◌∙◌, ap, pos, ◌-ℤ◌, ◌*ℤ◌, arith, rules, w64, to_z, of_z, to_z-of_z}
 use Rattle.std.proofs.lemmas.Int.{to_z_pos}
 use Rattle.units.proofs.Sizes.{fits_signed, plus_fits, minus_is}
 use Rattle.network.specs.Network.{reading}
