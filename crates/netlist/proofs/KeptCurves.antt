@@ -16,7 +16,9 @@ use Rattle.console.specs.Number.{worth_at}
 use Rattle.console.specs.declared.words.Run.TheVariants.{Digits}
 use Rattle.network.specs.Network.{reading}
 use Rattle.image.specs.Parts.{no_curve}
-use Rattle.network.specs.Kind.{diode_kind}
+use Rattle.network.specs.Kind.{diode_kind, number_of}
+use Rattle.network.specs.declared.kind.Kind.{Kind}
+use Rattle.network.specs.declared.kind.Kind.TheVariants as kinds
 use Rattle.std.specs.Prelude.{Some, None}
 use Rattle.ohms.specs.Worth.{Worth, stage}
 use Rattle.image.specs.declared.parts.Curve.{Curve}
@@ -147,12 +149,12 @@ TidyLine (line.Part e) = Unit {0}
 TidyLine (line.Setting field n) = Unit {0}
 TidyLine (line.Curve c) = TidyCurve c
 
-element_tidy : (kind curve : ℕ) (s : List ℕ) (w : Worth) → TidyLine (element_line kind curve s w)
+element_tidy : (kind : Kind) (curve : ℕ) (s : List ℕ) (w : Worth) → TidyLine (element_line kind curve s w)
 element_tidy kind curve s (Some v) = tt
 element_tidy kind curve s None = tt
 
-plain_tidy : (kind : ℕ) (s : List ℕ) → TidyLine (plain_line kind s)
-plain_tidy kind s = go (eqb kind diode_kind)
+plain_tidy : (kind : Kind) (s : List ℕ) → TidyLine (plain_line kind s)
+plain_tidy kind s = go (eqb (number_of kind) diode_kind)
   where
     go : (t : Bool) → TidyLine (cond t (element_line kind (worth_at s (value_place s)) s (Some 0)) (element_line kind 0 s (stage (worth_at s (value_place s)))))
     go true = element_tidy kind (worth_at s (value_place s)) s (Some 0)
@@ -160,7 +162,7 @@ plain_tidy kind s = go (eqb kind diode_kind)
 
 says_by_tidy : (o : Opener) (s : List ℕ) (x : Line) → SaysBy o s x → TidyLine x
 says_by_tidy Empty s x a = rw a tt
-says_by_tidy Resistor s x a = rw a.says (element_tidy _ _ s a.worth)
+says_by_tidy Resistor s x a = rw a.says (element_tidy kinds.Resistor 0 s a.worth)
 says_by_tidy (Plain kind) s x a = rw a.says (plain_tidy kind s)
 says_by_tidy (Setting field) s x a = rw a.says tt
 says_by_tidy Curves s x a = rw a.says (stretches_tidy a.numbers tidy_none)

@@ -10,7 +10,9 @@ use borrow.Author.Tests.{eq-eqb, eqb-true}
 use Rattle.units.proofs.Every.{both}
 use Rattle.console.specs.Number.{worth_at}
 use Rattle.ohms.proofs.Promise.{value_once}
-use Rattle.network.specs.Kind.{resistor_kind, diode_kind}
+use Rattle.network.specs.Kind.{diode_kind, number_of}
+use Rattle.network.specs.declared.kind.Kind.{Kind}
+use Rattle.network.specs.declared.kind.Kind.TheVariants as kinds
 use Rattle.image.specs.declared.parts.Curve.{Curve}
 use Rattle.std.specs.Prelude.{Some, None}
 use Rattle.ohms.specs.Worth.{Worth, stage}
@@ -56,16 +58,23 @@ right_said Meant (line.Setting field n) h m = record { whole = line.Setting fiel
 right_said Meant (line.Curve c) h m = record { whole = line.Curve c; meant = m; kept = refl }
 
 -- a line with a value is not broken
-pub element_whole : (kind curve : ℕ) (s : List ℕ) (w : Worth) → element_line kind curve s w ≡ line.Broken → ⊥
+pub element_whole : (kind : Kind) (curve : ℕ) (s : List ℕ) (w : Worth) → element_line kind curve s w ≡ line.Broken → ⊥
 element_whole kind curve s (Some v) e = let z : ◌≡◌ {A = ℕ} 0 1 = cc in omega arith
 element_whole kind curve s None e = let z : ◌≡◌ {A = ℕ} 0 1 = cc in omega arith
 
-pub plain_whole : (kind : ℕ) (s : List ℕ) → plain_line kind s ≡ line.Broken → ⊥
-plain_whole kind s = go (eqb kind diode_kind)
+pub plain_whole : (kind : Kind) (s : List ℕ) → plain_line kind s ≡ line.Broken → ⊥
+plain_whole kind s = go (eqb (number_of kind) diode_kind)
   where
     go : (t : Bool) → cond t (element_line kind (worth_at s (value_place s)) s (Some 0)) (element_line kind 0 s (stage (worth_at s (value_place s)))) ≡ line.Broken → ⊥
     go true = element_whole kind (worth_at s (value_place s)) s (Some 0)
     go false = element_whole kind 0 s (stage (worth_at s (value_place s)))
+
+-- every kind but the diode's goes by a stage
+pub other_kind : (kind : Kind) → (kind ≡ kinds.Diode → ⊥) → eqb (number_of kind) diode_kind ≡ false
+other_kind kinds.Resistor h = refl
+other_kind kinds.Capacitor h = refl
+other_kind kinds.Inductor h = refl
+other_kind kinds.Diode h = absurd (h refl)
 
 -- ---- one reading
 
@@ -74,7 +83,7 @@ pub says_by_once : (o : Opener) (s : List ℕ) (x y : Line) → SaysBy o s x →
 says_by_once Empty s x y a b = a ∙ sym b
 says_by_once Resistor s x y a b =
     let same = value_once s (value_place s) (length s) (length s) a.worth b.worth a.value b.value in
-    a.says ∙ ap (λ (w : Worth). element_line resistor_kind 0 s w) same.1 ∙ sym b.says
+    a.says ∙ ap (λ (w : Worth). element_line kinds.Resistor 0 s w) same.1 ∙ sym b.says
 says_by_once (Plain kind) s x y a b = a.says ∙ sym b.says
 says_by_once (Setting field) s x y a b = a.says ∙ sym b.says
 says_by_once Curves s x y a b = a.says ∙ ap (λ (c : Curve). line.Curve c) (stretches_once a.numbers b.numbers) ∙ sym b.says

@@ -10,7 +10,9 @@ use Rattle.units.specs.Number as numbers
 use Rattle.console.specs.Number.{worth_at}
 use Rattle.console.specs.Words.{first}
 use Rattle.console.specs.declared.words.Run.TheVariants as run
-use Rattle.network.specs.Kind.{resistor_kind, diode_kind}
+use Rattle.network.specs.Kind.{diode_kind, number_of}
+use Rattle.network.specs.declared.kind.Kind.{Kind}
+use Rattle.network.specs.declared.kind.Kind.TheVariants as kinds
 use Rattle.image.specs.Judged.{judged}
 use Rattle.image.specs.Parts.{no_element, no_parts, in_version}
 use Rattle.image.specs.declared.parts.Element.{Element}
@@ -55,14 +57,14 @@ module _ (d : Draft) (each : ValuesFit d.parts) where
   part_fits e h = store-each (λ (e : Element). e.value ≤ most_word) d.parts.elements d.parts.element_count e no_element h each
 
   -- an element by what its value comes to; nothing is told of one outside the limits
-  element_fits_lem : (kind curve : ℕ) (s : List ℕ) (w : Worth) → Bounded w → ValuesFit (with_line d (element_line kind curve s w)).parts
+  element_fits_lem : (kind : Kind) (curve : ℕ) (s : List ℕ) (w : Worth) → Bounded w → ValuesFit (with_line d (element_line kind curve s w)).parts
   unfolding with_line
   element_fits_lem kind curve s (Some v) b = part_fits _ b
   element_fits_lem kind curve s None b = each
 
   -- an element with a plain number
-  plain_fits : (kind : ℕ) (s : List ℕ) → ValuesFit (with_line d (plain_line kind s)).parts
-  plain_fits kind s = go (eqb kind diode_kind)
+  plain_fits : (kind : Kind) (s : List ℕ) → ValuesFit (with_line d (plain_line kind s)).parts
+  plain_fits kind s = go (eqb (number_of kind) diode_kind)
     where
       n : ℕ
       n = worth_at s (value_place s)
@@ -75,7 +77,7 @@ module _ (d : Draft) (each : ValuesFit d.parts) where
   says_fits : (o : Opener) (s : List ℕ) (x : Line) → SaysBy o s x → ValuesFit (with_line d x).parts
   unfolding with_line with_setting with_curve
   says_fits Empty s x a = rw a each
-  says_fits Resistor s x a = rw a.says (element_fits_lem resistor_kind 0 s a.worth (sum_bounded s most_open (value_place s) (length s) a.worth a.value))
+  says_fits Resistor s x a = rw a.says (element_fits_lem kinds.Resistor 0 s a.worth (sum_bounded s most_open (value_place s) (length s) a.worth a.value))
   says_fits (Plain kind) s x a = rw a.says (plain_fits kind s)
   says_fits (Setting Drives) s x a = rw a.says each
   says_fits (Setting Output) s x a = rw a.says each

@@ -7,7 +7,9 @@ use Rattle.std.specs.Prelude.{◌≡◌, Bool, true, false, ◌&&◌, cond, List
 use Rattle.console.specs.Number.{worth_at}
 use Rattle.console.specs.Words.{past, first}
 use Rattle.console.specs.declared.words.Run.TheVariants.{Blanks, Digits, Name}
-use Rattle.network.specs.Kind.{resistor_kind, capacitor_kind, inductor_kind, diode_kind}
+use Rattle.network.specs.Kind.{diode_kind, number_of}
+use Rattle.network.specs.declared.kind.Kind.{Kind}
+use Rattle.network.specs.declared.kind.Kind.TheVariants as kinds
 use Rattle.image.specs.Parts.{no_curve}
 use Rattle.image.specs.declared.parts.Curve.{Curve}
 use Rattle.ohms.specs.Grammar.{Sum, most_open}
@@ -51,7 +53,7 @@ start s = past Blanks s 0
 
 -- an element by its letter: R, C, L, D
 abbrev pub by_letter : ℕ → Opener
-by_letter b = cond (eqb b 82) Resistor (cond (eqb b 67) (Plain capacitor_kind) (cond (eqb b 76) (Plain inductor_kind) (cond (eqb b 68) (Plain diode_kind) Other)))
+by_letter b = cond (eqb b 82) Resistor (cond (eqb b 67) (Plain kinds.Capacitor) (cond (eqb b 76) (Plain kinds.Inductor) (cond (eqb b 68) (Plain kinds.Diode) Other)))
 
 -- a setting or a curve by its word, or else an element
 abbrev pub by_word : List ℕ → Opener → Opener
@@ -77,15 +79,15 @@ abbrev pub headed : List ℕ → Bool
 headed s = stands Name s (start s) && stands Digits s (after_name s) && stands Digits s (second_node s)
 
 -- the element, if no stage of its value was outside the limits
-abbrev pub element_line : (kind curve : ℕ) → List ℕ → Worth → Line
-element_line kind curve s (Some v) = line.Part (record { kind = kind; p = worth_at s (after_name s); q = worth_at s (second_node s); curve = curve; value = v })
+abbrev pub element_line : Kind → (curve : ℕ) → List ℕ → Worth → Line
+element_line kind curve s (Some v) = line.Part (record { kind = number_of kind; p = worth_at s (after_name s); q = worth_at s (second_node s); curve = curve; value = v })
 element_line kind curve s None = line.Outside
 
 -- with a plain number for its value: a diode's is the number of its curve, which has no limits here
-abbrev pub plain_line : ℕ → List ℕ → Line
+abbrev pub plain_line : Kind → List ℕ → Line
 plain_line kind s =
     let n = worth_at s (value_place s) in
-    cond (eqb kind diode_kind) (element_line kind n s (Some 0)) (element_line kind 0 s (stage n))
+    cond (eqb (number_of kind) diode_kind) (element_line kind n s (Some 0)) (element_line kind 0 s (stage n))
 
 -- ---- what a line says
 
@@ -94,10 +96,10 @@ pub record ResistorLine (s : List ℕ) (x : Line) : Type 0 where
   pub heads : headed s ≡ true
   pub worth : Worth
   pub value : Sum s most_open (value_place s) (length s) worth
-  pub says : x ≡ element_line resistor_kind 0 s worth
+  pub says : x ≡ element_line kinds.Resistor 0 s worth
 
 -- another element, whose value is a number
-pub record PlainLine (kind : ℕ) (s : List ℕ) (x : Line) : Type 0 where
+pub record PlainLine (kind : Kind) (s : List ℕ) (x : Line) : Type 0 where
   pub heads : headed s ≡ true
   pub value : ends s (value_place s) ≡ true
   pub says : x ≡ plain_line kind s

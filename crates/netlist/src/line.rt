@@ -11,14 +11,14 @@ use super::{curve, field};
 use console::words::Run;
 use console::{number, words};
 use image::Element;
-use network::kind;
+use network::kind::Kind;
 
 // A resistor, another element by its kind, a setting, a curve, or none of these.
 #[derive(Clone, Copy)]
 enum Opener {
     Empty,
     Resistor,
-    Plain(u8),
+    Plain(Kind),
     Setting(Field),
     Curves,
     Other,
@@ -37,9 +37,9 @@ fn by_letter(letter: u8) -> Opener
 {
     match letter {
         82 => Opener::Resistor,
-        67 => Opener::Plain(kind::CAPACITOR as u8),
-        76 => Opener::Plain(kind::INDUCTOR as u8),
-        68 => Opener::Plain(kind::DIODE as u8),
+        67 => Opener::Plain(Kind::Capacitor),
+        76 => Opener::Plain(Kind::Inductor),
+        68 => Opener::Plain(Kind::Diode),
         _ => Opener::Other,
     }
 }
@@ -106,7 +106,7 @@ fn headed(s: &[u8]) -> bool
 }
 
 // An element, if its value is within the limits.
-fn element_line(kind: u8, curve: u8, s: &[u8], worth: Option<u32>) -> Line
+fn element_line(kind: Kind, curve: u8, s: &[u8], worth: Option<u32>) -> Line
     ensures { result ≡ kept_line (element_line kind curve s.now worth) }
 {
     match worth {
@@ -114,7 +114,7 @@ fn element_line(kind: u8, curve: u8, s: &[u8], worth: Option<u32>) -> Line
             let p = field::byte(s, after_name(s));
             let q = field::byte(s, second_node(s));
             Line::Part(Element {
-                kind,
+                kind: u8::from(kind),
                 p,
                 q,
                 curve,
@@ -126,14 +126,14 @@ fn element_line(kind: u8, curve: u8, s: &[u8], worth: Option<u32>) -> Line
 }
 
 // An element with a plain number for its value.
-fn plain_line(kind: u8, s: &[u8]) -> Line
+fn plain_line(kind: Kind, s: &[u8]) -> Line
     ensures { result ≡ kept_line (plain_line kind s.now) }
 {
     let at = value_place(s);
-    if kind as u64 == kind::DIODE {
-        return element_line(kind, field::byte(s, at), s, Some(0));
+    match kind {
+        Kind::Diode => element_line(kind, field::byte(s, at), s, Some(0)),
+        _ => element_line(kind, 0, s, ohms::stage(number::worth_at(s, at))),
     }
-    element_line(kind, 0, s, ohms::stage(number::worth_at(s, at)))
 }
 
 // A resistor, whose value is all that remains.
@@ -144,15 +144,13 @@ fn resistor(s: &[u8]) -> Line
         return Line::Broken;
     }
     match ohms::value(s, value_place(s)) {
-        Some(found) if found.end == s.len() => {
-            element_line(kind::RESISTOR as u8, 0, s, found.worth)
-        }
+        Some(found) if found.end == s.len() => { element_line(Kind::Resistor, 0, s, found.worth) }
         _ => Line::Broken,
     }
 }
 
 // Another element, whose value is a number.
-fn plain(kind: u8, s: &[u8]) -> Line
+fn plain(kind: Kind, s: &[u8]) -> Line
     ensures { Right (SaysBy (Plain kind) s.now) result }
 {
     if !headed(s) {
