@@ -1,41 +1,28 @@
 -- The whole search: where it begins, and that each way to its end is the answer or none. Assumes nothing.
-use mathlib.Core.Path.{◌≡◌, sym, ◌∙◌, subst}
-use mathlib.Core.Bool.{Bool, true, false, false≢true}
+use mathlib.Core.Path.{◌≡◌, sym, ◌∙◌}
+use mathlib.Core.Bool.{Bool, true, false}
 use mathlib.Core.List.{List}
-use mathlib.Core.Logic.{inl}
-use Prim.Native.Nat.{ℕ, zero, suc, ◌+◌, ◌≤◌}
+use Prim.Native.Nat.{ℕ, zero, suc, ◌≤◌}
 use native.Mathlib.Omega.{arith}
-use lib.IntN.{ℤ, pos}
-use lib.ListN.{length, set}
-use lib.Seq.{get_or-set_same}
+use lib.IntN.{ℤ}
 use Rattle.units.specs.Voltage.{InRange}
 use Rattle.units.proofs.Integers.{scale_one}
 use Rattle.units.proofs.Clamping.{clamped_ranged}
 use Rattle.network.specs.Network.{Network, reading}
-use Rattle.network.specs.Sample.{Legal, Low, Above, Answer, Empty}
+use Rattle.network.specs.Sample.{Legal, Above, Answer, Empty}
 use Rattle.network.proofs.Nodes.{by_node}
 use Rattle.network.proofs.Hold.{start, top_start}
 use Rattle.network.proofs.Ranges.{legal_in_range}
 use Rattle.network.proofs.Settle.{settling_start, settled_answer, none_empty}
 use Rattle.circuit.specs.Board.{nodes_on, driven_on, network_on, Evaluable}
 use Rattle.circuit.specs.Nets.{Netted}
-use Rattle.circuit.specs.Places.{Taken}
 use Rattle.std.proofs.Common.{Result, Ok, Err}
 use Rattle.solve.specs.declared.settle.NoneInRange.{NoneInRange}
-use Rattle.solve.specs.Search.{Searching, Changed, Down, Nowhere, Came}
+use Rattle.solve.specs.Search.{Searching, Down, Nowhere, Came}
 use Rattle.solve.specs.Climb.{Topped}
 use Rattle.solve.specs.Answer.{drives_at, seat_of, Seated, Start, Solvable, Solved}
 
 -- ---- where it begins
-
--- ground's place stored, the drives taken over and the free nodes seated
-pub seated_all : {board : List ℕ} {top : Bool} {given drives after : List ℤ} (before : List ℤ) → length before ≡ 16 → Taken given 1 (driven_on board + 1) (set before 0 (pos 0)) drives → Changed (λ (j : ℕ) (u : ℤ). u ≡ seat_of top (reading given j)) board drives after (suc (nodes_on board)) → Seated board top given after
-seated_all before long t h = record {
-  long = h.long;
-  ground = h.same 0 (omega arith) ∙ t.elsewhere 0 (inl (omega arith)) ∙ get_or-set_same before 0 (pos 0) (pos 0) (omega (arith, long));
-  driven = λ j l. h.same (suc j) l ∙ t.taken (suc j) (omega arith) (omega arith);
-  free = λ j a b. h.free j a (omega arith);
-}
 
 seat_ranged : (top : Bool) (v : ℤ) → InRange (seat_of top v)
 seat_ranged true v = omega arith

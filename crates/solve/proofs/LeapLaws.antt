@@ -1,17 +1,16 @@
 -- A leap: where it leads, and what the net currents at the far end prove. Assumes nothing.
 use mathlib.Core.Path.{◌≡◌, refl}
 use mathlib.Core.List.{List}
-use mathlib.Core.Logic.{◌⊎◌, inl, inr, ⊎_elim}
-use Prim.Native.Nat.{ℕ, ◌+◌, ◌*◌, ◌^◌, ◌≤◌, ◌<◌}
-use native.Mathlib.Nat.{le_refl, mul-le-mul}
+use mathlib.Core.Logic.{◌⊎◌, inl, inr}
+use Prim.Native.Nat.{ℕ, ◌+◌, ◌≤◌, ◌<◌}
+use native.Mathlib.Nat.{le_refl}
 use native.Mathlib.Omega.{arith}
-use lib.IntN.{ℤ, pos, nat_abs, ◌-ℤ◌}
+use lib.IntN.{ℤ, pos, ◌-ℤ◌}
 use lib.ListN.{length}
 use lib.Signed.{◌≤ℤ◌, ◌<ℤ◌}
 use borrow.Author.Count.{below_more}
-use Rattle.units.specs.Voltage.{voltage_limit, InRange, bottom}
+use Rattle.units.specs.Voltage.{voltage_limit}
 use Rattle.units.proofs.Integers.{signs, sub_law, neg_law, pos_law, abs_law}
-use Rattle.units.proofs.Sizes.{abs_within, abs_sub}
 use Rattle.network.specs.Network.{Free, reading}
 use Rattle.network.specs.Sample.{Under}
 use Rattle.network.specs.Search.{Sank, still}
@@ -20,26 +19,10 @@ use Rattle.network.proofs.Descend.{sank_under, sunk_list}
 use Rattle.network.proofs.Settle.{leap_settling}
 use Rattle.circuit.specs.Board.{nodes_on, driven_on, network_on}
 use Rattle.solve.specs.Search.{Searching, Down}
-use Rattle.solve.specs.Leap.{Reached, Led, Sinkable, LandedAt, stays, sinks, Lands}
+use Rattle.solve.specs.Leap.{Reached, Led, LandedAt, stays, sinks, Lands}
 use Rattle.solve.proofs.PlaceLaws.{set_cases, short_of}
 
 -- ---- where it leads
-
-pub reached_here : {v : ℤ} → InRange v → Reached v v
-reached_here inside = record { ranged = inside; down = omega signs; room = inl refl }
-
-pub reached_there : (v u : ℤ) → InRange v → u ≤ℤ v → bottom <ℤ u → Reached v u
-reached_there v u inside lower above = record {
-  ranged = abs_within u voltage_limit (omega (signs, abs_law v)) (omega (signs, neg_law (pos voltage_limit), pos_law voltage_limit));
-  down = lower;
-  room = inr above;
-}
-
--- one lower is in range
-pub sunk_ranged : (u : ℤ) → InRange u → bottom <ℤ u → InRange (u -ℤ pos 1)
-sunk_ranged u inside above =
-    let less = sub_law u (pos 1) in
-    abs_within (u -ℤ pos 1) voltage_limit (omega (signs, less, pos_law 1, abs_law u)) (omega (signs, less, pos_law 1, neg_law (pos voltage_limit), pos_law voltage_limit))
 
 -- ---- the far end, as far as node i
 
@@ -54,10 +37,6 @@ module _ {board : List ℕ} {stretches stored volts s : List ℤ} where
   lands_none given = record { searching = given; sank = still (λ j l. refl); falls = λ j l f. absurd (omega (arith, f.0)); later = λ j l. refl }
 
   module _ {e nets : List ℤ} {i : ℕ} (h : LandsTo board stretches stored volts s e nets i) (free : Free (network_on board stretches) i) where
-    -- a node that leapt may sink
-    pub lands_room : Sinkable board volts s → reading e i <ℤ reading volts i → bottom <ℤ reading e i
-    lands_room room leapt = let same = h.later i (le_refl i) in rw same (room i free.0 free.1 (omega (signs, same, leapt)))
-
     pub lands_next : {next then : List ℤ} → LandedAt board stretches stored volts e i next → Searching board stretches stored next then → LandsTo board stretches stored volts s next then (i + 1)
     lands_next (stays over) searching = record {
       searching = searching;
@@ -76,17 +55,11 @@ module _ {board : List ℕ} {stretches stored volts s : List ℤ} where
           later = λ j l. set_cases (λ (k : ℕ) (w : ℤ). i < k → w ≡ reading s k) e i j u short (λ m. absurd (omega arith)) (λ n m. h.later j (omega arith)) (omega arith);
         }
 
-  pub lands_all : {e nets : List ℤ} {i : ℕ} → LandsTo board stretches stored volts s e nets i → nodes_on board < i → Lands board stretches stored volts s e
-  lands_all h past = record { sank = h.sank; falls = λ j f. h.falls j (omega (arith, f.1)) f }
-
 -- ---- the leap
 
 module _ {board : List ℕ} {volts s : List ℤ} (led : Led board volts s) where
   led_at : (j : ℕ) → driven_on board < j → j ≤ nodes_on board → Reached (reading volts j) (reading s j)
   led_at j above there = led.free j above (omega arith)
-
-  pub led_sinkable : Sinkable board volts s
-  led_sinkable j a b l = ⊎_elim (λ (e : reading s j ≡ reading volts j). absurd (omega signs)) (λ (e : bottom <ℤ reading s j). e) (led_at j a b).room
 
   pub leap_down : {stretches stored e nets : List ℤ} → Searching board stretches stored e nets → Lands board stretches stored volts s e → Down board stretches stored volts e
   leap_down {stretches} {stored} {e} there lands =

@@ -2,7 +2,7 @@
 use mathlib.Core.Path.{◌≡◌, refl, sym, ◌∙◌, subst}
 use mathlib.Core.Bool.{Bool, true, false}
 use mathlib.Core.List.{List}
-use Prim.Native.Nat.{ℕ, suc, ◌+◌, ◌≤◌, ◌<◌}
+use Prim.Native.Nat.{ℕ, ◌+◌, ◌≤◌, ◌<◌}
 use native.Mathlib.Omega.{arith}
 use lib.IntN.{ℤ, pos}
 use lib.Dec.{eqb}
@@ -11,10 +11,9 @@ use lib.Seq.{get_or-set_same, get_or-set_other}
 use borrow.Author.Tests.{eqb-true, eqb-false}
 use Rattle.units.specs.Voltage.{InRange}
 use Rattle.units.proofs.Integers.{scale_one}
-use Rattle.network.specs.Network.{Free, reading}
+use Rattle.network.specs.Network.{reading}
 use Rattle.network.specs.Sample.{Legal}
 use Rattle.circuit.specs.Board.{nodes_on, driven_on, network_on, Ranged}
-use Rattle.circuit.specs.Nets.{Moved}
 use Rattle.solve.specs.Answer.{drives_at}
 use Rattle.solve.specs.Search.{Searching, Changed}
 
@@ -30,9 +29,6 @@ pub ranged_set : (board : List ℕ) (l : List ℤ) (i : ℕ) (v : ℤ) → i < l
 ranged_set board l i v short ranged inside j there = set_cases (λ (k : ℕ) (w : ℤ). InRange w) l i j v short inside (λ n. ranged j there)
 
 module _ {P : ℕ → ℤ → Type 0} {board : List ℕ} {before : List ℤ} where
-  pub changed_none : {after : List ℤ} → length before ≡ 16 → after ≡ before → Changed P board before after (driven_on board + 1)
-  changed_none long e = subst (λ (l : List ℤ). Changed P board before l (driven_on board + 1)) (sym e) (record { long = long; same = λ j l. refl; free = λ j a b. absurd (omega arith) })
-
   module _ {after : List ℤ} {i : ℕ} (h : Changed P board before after i) where
     pub changed_more : {u : ℤ} {next : List ℤ} → driven_on board < i → i < 16 → P i u → next ≡ set after i u → Changed P board before next (i + 1)
     changed_more {u} above place here e =
@@ -43,9 +39,6 @@ module _ {P : ℕ → ℤ → Type 0} {board : List ℕ} {before : List ℤ} whe
           free = λ j a b. set_cases P after i j u short here (λ n. h.free j a (omega (arith, n)));
         })
 
-    pub changed_all : nodes_on board < i → Changed P board before after (suc (nodes_on board))
-    changed_all past = record { long = h.long; same = h.same; free = λ j a b. h.free j a (omega arith) }
-
 -- ---- where a search stands
 
 module _ {board : List ℕ} {stretches stored a nets : List ℤ} (s : Searching board stretches stored a nets) where
@@ -55,15 +48,6 @@ module _ {board : List ℕ} {stretches stored a nets : List ℤ} (s : Searching 
 
   pub short_of : {i : ℕ} → i ≤ nodes_on board → i < length a
   short_of there = omega (arith, place_of there, s.long)
-
-  -- one free node moved
-  pub searching_moved : {b after : List ℤ} {i : ℕ} {v : ℤ} → Free (network_on board stretches) i → InRange v → Moved board stretches stored a i v b after → Searching board stretches stored b after
-  searching_moved {b} {after} {i} {v} free inside moved = record {
-    evaluable = record { ready = s.evaluable.ready; kept = s.evaluable.kept; ranged = rw moved.placed (ranged_set board a i v (short_of free.1) s.evaluable.ranged inside) };
-    long = rw moved.placed (length-set a i v ∙ s.long);
-    ground = rw moved.placed (get_or-set_other a i 0 v (pos 0) (λ e. omega (arith, e, free.0)) ∙ s.ground);
-    netted = moved.netted;
-  }
 
   -- it has some drives
   pub searching_legal : Legal (network_on board stretches) (drives_at a) (reading a)

@@ -1,5 +1,5 @@
 -- A sweep: what the steps at the nodes so far say together. Assumes nothing.
-use mathlib.Core.Path.{◌≡◌, refl, sym, ◌∙◌, subst}
+use mathlib.Core.Path.{◌≡◌, sym, ◌∙◌, subst}
 use mathlib.Core.Bool.{Bool, true, false, false≢true, ◌||◌}
 use mathlib.Core.List.{List}
 use Prim.Native.Nat.{ℕ, ◌+◌, ◌<◌}
@@ -11,7 +11,7 @@ use Rattle.network.specs.Network.{Free, reading}
 use Rattle.network.specs.Sample.{Low}
 use Rattle.network.specs.Search.{height}
 use Rattle.network.proofs.Measures.{height_under}
-use Rattle.circuit.specs.Board.{nodes_on, driven_on, network_on}
+use Rattle.circuit.specs.Board.{nodes_on, network_on}
 use Rattle.std.proofs.Common.{Result, Ok, Err}
 use Rattle.std.proofs.Math.Bool.{or-true, or-false}
 use Rattle.std.specs.Result.{IsErr}
@@ -44,9 +44,6 @@ pub record Swept (board : List ℕ) (stretches stored before after nets : List �
   pub falls : moved ≡ true → height (network_on board stretches) (reading after) < height (network_on board stretches) (reading before)
 
 module _ {board : List ℕ} {stretches stored before : List ℤ} where
-  pub swept_none : {nets : List ℤ} → Searching board stretches stored before nets → Swept board stretches stored before before nets false (driven_on board + 1)
-  swept_none s = record { searching = s; down = down_none; still = λ e. (refl, λ j l free. absurd (omega (arith, free.0))); falls = λ e. absurd (false≢true e) }
-
   module _ {after nets : List ℤ} {moved : Bool} {i : ℕ} (s : Swept board stretches stored before after nets moved i) where
     module _ {next then : List ℤ} (searching : Searching board stretches stored next then) where
       pub swept_still : (next ≡ after) × LowAt board stretches stored after i → Swept board stretches stored before next then moved (i + 1)
@@ -72,14 +69,6 @@ module _ {board : List ℕ} {stretches stored before : List ℤ} where
 
     pub all_still : nodes_on board < i → moved ≡ false → (after ≡ before) × Low (network_on board stretches) (reading stored) (reading before)
     all_still past e = let k = s.still e in (k.0, λ j free. k.1 j (omega (arith, free.1)) free)
-
-    -- all nodes
-    pub swept_all : nodes_on board < i → Fell (Low (network_on board stretches) (reading stored) (reading before)) board stretches stored before after (Ok moved)
-    swept_all past = all_fell moved refl
-      where
-        all_fell : (m : Bool) → moved ≡ m → Fell (Low (network_on board stretches) (reading stored) (reading before)) board stretches stored before after (Ok m)
-        all_fell false e = all_still past e
-        all_fell true e = record { down = s.down; falls = s.falls e }
 
 -- ---- how it ends
 

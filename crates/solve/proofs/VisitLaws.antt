@@ -20,7 +20,7 @@ use Rattle.network.proofs.Nodes.{by_node}
 use Rattle.network.proofs.Compare.{others_rise}
 use Rattle.network.proofs.Lowering.{lowered_law, lowered_here, lowered_under}
 use Rattle.network.proofs.Certify.{raised_free, raised_top, raised_fixed, visit_start, visit_more, visit_more_list, visit_law, visit_over, stuck, certify}
-use Rattle.circuit.specs.Board.{nodes_on, driven_on, network_on, Ranged, Evaluable}
+use Rattle.circuit.specs.Board.{nodes_on, driven_on, network_on, Ranged}
 use Rattle.solve.specs.Search.{Searching, LowAt}
 use Rattle.solve.specs.Climb.{Risen}
 use Rattle.solve.specs.Visit.{one_up, Raised, Visiting, Waiting, Stuck, AllGo}
@@ -55,15 +55,6 @@ module _ {board : List ℕ} {volts s : List ℤ} where
       (λ (a : (one_up (reading volts j) ≡ reading volts j) × (pos voltage_limit ≤ℤ reading volts j)). a.0 ∙ sym (raised_top N (reading volts) j a.1))
       (one_up_law (reading volts j)))
 
-  pub raised_evaluable : {stretches stored : List ℤ} → Evaluable board stretches stored volts → Raised board volts s → Evaluable board stretches stored s
-  raised_evaluable {stretches} given h = record {
-    ready = given.ready;
-    kept = given.kept;
-    ranged = by_node (network_on board stretches) (λ (j : ℕ). InRange (reading s j))
-        (λ j f. rw (h.same j f) (given.ranged j (omega (arith, given.ready.laid.limits.wired.driven_there))))
-        (λ j f. rw (h.free j f.0 (omega (arith, f.1))) (one_up_range (reading volts j) (given.ranged j f.1)));
-  }
-
   pub visiting_start : {stretches stored w : List ℤ} → Ranged board volts → Searching board stretches stored s w → Raised board volts s → Visiting board stretches stored volts s w
   visiting_start {stretches} {stored} ranged searching h = record {
     searching = searching;
@@ -83,17 +74,6 @@ pub record LapTo (board : List ℕ) (stretches stored volts before after : List 
   pub waiting : wait ≡ true → (j : ℕ) × Free (network_on board stretches) j × (i ≤ j) × (reading volts j <ℤ reading after j)
 
 module _ {board : List ℕ} {stretches stored volts before : List ℤ} where
-  pub lap_none : {w : List ℤ} → Visiting board stretches stored volts before w → LapTo board stretches stored volts before before false false (nodes_on board + 1)
-  lap_none v = record {
-    ranged = v.ranged;
-    visit = v.visit;
-    under = le_refl _;
-    still = λ e j f l. absurd (omega (arith, f.1));
-    falls = λ e. absurd (false≢true e);
-    back = λ e j f l. absurd (omega (arith, f.1));
-    waiting = λ e. absurd (false≢true e);
-  }
-
   module _ {after : List ℤ} {went wait : Bool} {i : ℕ} (h : LapTo board stretches stored volts before after went wait i) where
     abbrev N : Network
     N = network_on board stretches

@@ -1,4 +1,4 @@
-use Rattle.solve.proofs.VisitLaws.{lap_back, lap_waits, lap_goes, lap_through, lap_sticks}
+use Rattle.solve.proofs.VisitLaws.{lap_back, lap_goes, lap_through}
 use native.Mathlib.Omega.{arith}
 use Rattle.solve.proofs.certify.visit_all.Goals as goal
 

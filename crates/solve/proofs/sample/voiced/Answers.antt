@@ -2,7 +2,7 @@ use mathlib.Core.Bool.{false}
 use native.Mathlib.Omega.{arith}
 use Rattle.std.proofs.lemmas.Result.{err_from_is_err_and}
 use Rattle.solve.specs.Sample.{TopTested}
-use Rattle.solve.proofs.SampleLaws.{empty_refused, answer_ranged, top_refused, sample_accepted, stored_refused}
+use Rattle.solve.proofs.SampleLaws.{empty_refused, top_refused, sample_accepted, stored_refused}
 use Rattle.solve.proofs.sample.voiced.Goals as goal
 
 pub returns-in_err-solve : goal.returns-in_err-solve

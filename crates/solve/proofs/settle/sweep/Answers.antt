@@ -1,5 +1,4 @@
-use Rattle.solve.proofs.SweepLaws.{swept_more, swept_all, fell_out, nowhere_down}
-use native.Mathlib.Omega.{arith}
+use Rattle.solve.proofs.SweepLaws.{swept_more, fell_out, nowhere_down}
 use Rattle.solve.proofs.settle.sweep.Goals as goal
 
 pub returns-in_err-moved : goal.returns-in_err-moved
