@@ -2,14 +2,6 @@
 ghost use Rattle.std.specs.Prelude.{◌≡◌};
 ghost use Rattle.network.specs.Kind.{number_of, kind_of, has_curve, stores};
 
-pub const RESISTOR: u64 = 1;
-
-pub const CAPACITOR: u64 = 2;
-
-pub const INDUCTOR: u64 = 3;
-
-pub const DIODE: u64 = 4;
-
 #[derive(Clone, Copy, PartialEq, Eq, Debug)]
 pub enum Kind {
     Resistor,

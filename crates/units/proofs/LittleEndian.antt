@@ -1,6 +1,6 @@
 -- Laws of `little_endian` and `written`, each once over the number of bytes: two parts make a whole, what was written is read
 -- back, and every other byte stays. Assumes nothing.
-use Rattle.std.proofs.Common.{◌≡◌, ℕ, zero, suc, ◌+◌, ◌-◌, ◌*◌, ◌/◌, ◌%◌, ◌^◌, ◌<◌, ◌≤◌, ◌⊎◌, List, length, get_or, set, ℤ, pos, negsuc, sym, refl, ap, ◌∙◌, inl, inr, ⊎_elim, add-zero, mod-eq_of_lt, mul_assoc, mul_comm, suc-add, mul-le-mul_left, one-mul, zero-add, mul-add, div-one, arith, length-set, get_or-set_other, get_or-set_same, pow-add, to_z-of_z, w64, SFits, to_z, of_z}
+use Rattle.std.proofs.Common.{◌≡◌, ℕ, zero, suc, ◌+◌, ◌-◌, ◌*◌, ◌/◌, ◌%◌, ◌^◌, ◌<◌, ◌≤◌, ◌⊎◌, List, length, get_or, set, ℤ, pos, negsuc, sym, refl, ap, ◌∙◌, inl, inr, ⊎_elim, add-zero, mod-eq_of_lt, mul_assoc, mul_comm, suc-add, mul-le-mul_left, one-mul, zero-add, mul-add, div-one, arith, length-set, get_or-set_other, get_or-set_same, pow-add, to_z-of_z, w32, w64, SFits, to_z, of_z}
 use native.Mathlib.Nat.{pow-succ', pow-zero, pow-le-pow_right, mod-one, div-div-eq-div-mul}
 use lib.Arith.{mod-mul}
 use lib.Pow.{not_mod}
@@ -8,7 +8,7 @@ use mir.Syntax.{Width}
 use mir.Val.{bits}
 use mir.Facts.{Fits-of_z}
 use mir.ValLaws.{half_full}
-use Rattle.units.specs.Bytes.{little_endian, written, Spells}
+use Rattle.units.specs.Bytes.{little_endian, written, Spells, twos_complement}
 
 -- 256 ^ n is above 0
 pub pow_above : (n : ℕ) → 0 < 256 ^ n
@@ -123,3 +123,10 @@ signed_read w j n wide whole s at z f h = ap (to_z w) (written_read n s at (of_z
     low : (z : ℤ) → SFits w z → of_z w64 z % 2 ^ bits w ≡ of_z w z
     low (pos m) f = mod-eq_of_lt (Fits-of_z f).fits
     low (negsuc m) f = ap (λ (k : ℕ). (2 ^ k - suc m) % 2 ^ bits w) (sym wide) ∙ low_below j (bits w) m (half_full w f.sfits)
+
+-- of four bytes and of eight, what `signed_at` reads is the language's own reading
+pub four_signed : (n : ℕ) → twos_complement (256 ^ 4 / 2) n ≡ to_z w32 n
+four_signed n = refl
+
+pub eight_signed : (n : ℕ) → twos_complement (256 ^ 8 / 2) n ≡ to_z w64 n
+eight_signed n = refl

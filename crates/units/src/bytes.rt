@@ -6,7 +6,7 @@ ghost use Rattle.units.specs.Bytes.{Spells, little_endian, written, twos_complem
 
 use super::signed;
 
-// What the N bytes from `at` on hold, the highest first to be read.
+// What the N bytes from `at` on hold. They are gathered from the highest down.
 pub fn unsigned_at<const N: usize>(s: &[u8], at: usize) -> u64
     requires { (N ≤ 8) × (at + N ≤ length s.now) }
     ensures { Spells N s.now at result }
