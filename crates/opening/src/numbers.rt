@@ -65,10 +65,11 @@ pub fn circuit(parts: Parts) -> Circuit
     ensures board { result.board ≡ board_of parts plain }
     ensures stretches { result.stretches ≡ stretches_of parts }
 {
-    let mut stretches = [0i64; 408];
-    table::stretches(parts, &mut stretches);
-    let board = laid(parts);
-    let mut circuit = Circuit { board, stretches };
+    let mut circuit = Circuit {
+        board: laid(parts),
+        stretches: [0; 408],
+    };
+    table::stretches(parts, &mut circuit.stretches);
     circuit.fill_index();
     for i in 0..16 {
         let sum = circuit.steepest(i);

@@ -12,11 +12,11 @@ use Rattle.opening.proofs.numbers.circuit.Goals as goal
 
 pub fill_index-requires : goal.fill_index-requires
 fill_index-requires c =
-    rw (c.laid-board.ensures, c.stretches.ensures) (unindexed c.args.parts plain c.requires.0 (in_limits c.args.parts plain c.requires.0 c.requires.1))
+    rw (c.laid.ensures, c.stretches.ensures) (unindexed c.args.parts plain c.requires.0 (in_limits c.args.parts plain c.requires.0 c.requires.1))
 
 pub loop-i-init : goal.loop-i-init
 loop-i-init c = record {
-  board = c.fill_index.ensures.board ∙ index_made c.args.parts plain c.requires.0 _ _ c.laid-board.ensures c.stretches.ensures;
+  board = c.fill_index.ensures.board ∙ index_made c.args.parts plain c.requires.0 _ _ c.laid.ensures c.stretches.ensures;
   stretches = c.fill_index.ensures.stretches ∙ c.stretches.ensures;
 }
 
