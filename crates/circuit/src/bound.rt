@@ -5,6 +5,7 @@ ghost use Rattle.circuit.specs.Bound.{AtNode, Bounding};
 
 use crate::Circuit;
 use units::signed;
+
 // The least B with B times `held` at least `steepest` and e together; none where it does not fit. The quotient
 // goes first, so that no sum wraps that the bound itself would not.
 fn at_node(steepest: u64, held: u64, e: u64) -> Option<u64>

@@ -1,8 +1,8 @@
 // Arithmetic on i64, one operation to a function, with contracts in ℤ.
 //
 // In code a signed operation reads its operands back from their bits, so that nested expressions
-// make long goals. Other code calls these instead: its needs are then facts about ℤ alone, and the
-// compiler inlines the calls.
+// make long goals. Code that calls these instead needs facts about ℤ alone, and the compiler inlines
+// the calls. Code that writes the operators rests on the laws at the end of `proofs/Sizes.antt`.
 ghost use Rattle.std.specs.Prelude.{◌≡◌, ℕ, ◌+◌, ◌*◌, ◌^◌, ◌<◌, ◌≤◌, ℤ, pos, ◌+ℤ◌, ◌-ℤ◌, ◌*ℤ◌, int_le, int_lt, unsigned_abs};
 ghost use Rattle.units.specs.Integer.{rounded_up};
 
