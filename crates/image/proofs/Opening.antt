@@ -78,6 +78,10 @@ module _ (image : List ℕ) where
 
 -- ---- from the rules to the opening
 
+pub refused_4 : (image : List ℕ) → length_fits (length image) ≡ true → trailer_fits image ≡ true → sizes_fit image ≡ true → curve_bytes_fit image ≡ false → opening_of image ≡ refused number.Curve
+unfolding opening_of
+refused_4 image a b c d = rw (a, b, c, d)
+
 pub opened_0 : (image : List ℕ) → length_fits (length image) ≡ true → trailer_fits image ≡ true → sizes_fit image ≡ true → curve_bytes_fit image ≡ true → elements_fit (parts_of image) ≡ true → opening_of image ≡ opened (parts_of image)
 unfolding opening_of
 opened_0 image a b c d e = rw (a, b, c, d, e)

@@ -7,11 +7,11 @@ use Rattle.std.specs.Prelude.{Result, Ok, Err}
 use Rattle.units.specs.Number.{number_of}
 use Rattle.units.specs.declared.number.Number.{Number}
 use Rattle.units.specs.declared.number.Number.TheVariants.{Done}
-use Rattle.image.specs.Format.{Opening, opened, refused, opening_of}
+use Rattle.image.specs.Format.{Opening, opened, refused, parts_of, opening_of}
 use Rattle.image.specs.Opened.{result_of, Read}
 use Rattle.image.specs.Sound.{Sound}
 use Rattle.image.specs.declared.parts.Parts.{Parts}
-use Rattle.image.proofs.Opening.{opened_sound, refused_early}
+use Rattle.image.proofs.Opening.{opened_kept, opened_sound, refused_early}
 
 -- the promise admits one outcome
 pub read_once : (image : List ℕ) (r s : Result Parts Number) → Read image r → Read image s → r ≡ s
@@ -25,6 +25,10 @@ result_opened (refused n) parts e = cc
 result_refused : (o : Opening) (n : Number) → Err n ≡ result_of o → o ≡ refused n
 result_refused (opened q) n e = cc
 result_refused (refused k) n e = cc
+
+-- an image whose opening comes to parts is opened, as those that lie in it
+pub number_opened : (image : List ℕ) (parts : Parts) → Ok parts ≡ result_of (opening_of image) → opening_of image ≡ opened (parts_of image)
+number_opened image parts e = let o = result_opened (opening_of image) parts e in o ∙ ap opened (opened_kept image parts o).is
 
 -- an image that is read as parts is opened as them, and they are sound
 pub read_opening : (image : List ℕ) (parts : Parts) → Read image (Ok parts) → opening_of image ≡ opened parts

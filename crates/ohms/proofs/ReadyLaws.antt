@@ -7,6 +7,9 @@ use native.Mathlib.Omega.{arith}
 use lib.ListN.{length}
 use Rattle.ohms.specs.Worth.{Worth, joined}
 use Rattle.ohms.specs.Grammar.{stands, after, More, last, more, Chain}
+use Rattle.std.specs.Prelude.{Option, Some, None}
+use Rattle.ohms.specs.Found.{Right}
+use Rattle.ohms.specs.declared.reader.Found.{Found}
 use Rattle.ohms.specs.declared.stages.Sign.{Sign}
 use Rattle.ohms.proofs.ChainLaws.{OneReading}
 
@@ -16,6 +19,16 @@ pub record Ready (sign : Sign) (Item : ℕ → ℕ → Worth → Type 0) (text :
   pub within : m ≤ length text
   pub onward : {j : ℕ} {w : Worth} → More sign Item text m v j w → Chain sign Item text i j w
   pub back : {j : ℕ} {w : Worth} → Chain sign Item text i j w → More sign Item text m v j w
+
+-- .. or there is no such chain
+abbrev pub SoFar : Sign → (ℕ → ℕ → Worth → Type 0) → List ℕ → ℕ → Option Found → Type 0
+SoFar sign Item text i None = (j : ℕ) (w : Worth) → Chain sign Item text i j w → ⊥
+SoFar sign Item text i (Some found) = Ready sign Item text i found.end found.worth
+
+-- a value and the one after the sign, as one
+abbrev pub with_next : Sign → Worth → Option Found → Option Found
+with_next sign v None = None
+with_next sign v (Some found) = Some (record { end = found.end; worth = joined sign v found.worth })
 
 module _ (sign : Sign) (Item : ℕ → ℕ → Worth → Type 0) (text : List ℕ) (one : OneReading text Item) where
   -- the first value
@@ -52,6 +65,11 @@ module _ (sign : Sign) (Item : ℕ → ℕ → Worth → Type 0) (text : List �
         on : {j : ℕ} {w : Worth} → More sign Item text m v j w → More sign Item text k (joined sign v u) j w
         on (last f) = absurd (false≢true (sym f ∙ g))
         on (more t item rest) = let same = one.once item r in rw (same.0, same.1) at rest
+
+    -- .. as one: what is found then
+    pub so_far_more : stands sign text m ≡ true → (next : Option Found) → Right (Item (after sign text m)) next → SoFar sign Item text i (with_next sign v next)
+    so_far_more g None r = no_next g r
+    so_far_more g (Some found) r = ready_more g r
 
     -- no sign follows
     pub ready_done : stands sign text m ≡ false → Chain sign Item text i m v
