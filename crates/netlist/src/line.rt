@@ -36,10 +36,10 @@ fn by_letter(letter: u8) -> Opener
     ensures { result ≡ by_letter letter }
 {
     match letter {
-        82 => Opener::Resistor,
-        67 => Opener::Plain(Kind::Capacitor),
-        76 => Opener::Plain(Kind::Inductor),
-        68 => Opener::Plain(Kind::Diode),
+        b'R' => Opener::Resistor,
+        b'C' => Opener::Plain(Kind::Capacitor),
+        b'L' => Opener::Plain(Kind::Inductor),
+        b'D' => Opener::Plain(Kind::Diode),
         _ => Opener::Other,
     }
 }

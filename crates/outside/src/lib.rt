@@ -42,7 +42,8 @@ pub fn argument(env: &impl Env, i: usize, buffer: &mut [u8]) -> Option<usize>
 }
 
 // Each argument after the program's own name, up to the first call that fails. What the call failed with
-// is what comes of it, and nothing else does.
+// is what comes of it, and nothing else does. Which arguments there are no clause can say: that each is
+// acted on is there to be read, and the test below has it.
 pub fn for_each_argument<F: Fn(&[u8]) -> io::Result<()>>(env: &impl Env, act: F) -> io::Result<()>
     requires { F.IsAlwaysCallable act }
     ensures { IfErr result (λ e. (name : List ℕ) × (length name ≤ 4096) × FnReturnsAt F.Fn act name (Err e)) }

@@ -1,8 +1,8 @@
 // What an image comes to: the parts of a netlist, or a reason why there is none.
-ghost use Rattle.std.specs.Prelude.{◌≡◌};
+ghost use Rattle.std.specs.Prelude.{◌≡◌, length};
 ghost use Rattle.image.specs.Format.{opening_of};
 ghost use Rattle.image.specs.Sound.{Sound};
-ghost use Rattle.parts.specs.Answer.{judged_outcome, Ready, Answers, curves_of};
+ghost use Rattle.parts.specs.Answer.{judged_outcome, Ready, Answers, curves_of, curves_after};
 
 use super::nodes;
 use image::{Curve, Parts};
@@ -42,7 +42,8 @@ pub fn to(image: &[u8]) -> Result<Parts, Reason>
 // The curves that are written after the beginning.
 pub fn curves(answer: &Result<Parts, Reason>) -> &[Curve]
     requires { Ready answer.now }
-    ensures { result.now ≡ curves_of answer.now }
+    ensures curves { result.now ≡ curves_of answer.now }
+    ensures count { length result.now ≡ curves_after answer.now }
 {
     match answer {
         Ok(parts) => &parts.curves[..parts.curve_count as usize],

@@ -4,5 +4,5 @@ use Rattle.parts.proofs.write_curves.Goals as goal
 
 pub put-end-requires : goal.put-end-requires
 put-end-requires g c =
-    let written = curve_written c.args.answer.now c.loop-curve.curve-index c.requires (rw c.curves-curve-items.ensures at c.loop-curve-test.true) in
-    (rw c.curves-curve-items.ensures written, search rules)
+    let written = curve_written c.args.answer.now c.loop-curve.curve-index c.requires (rw c.curves-curve-items.ensures.curves at c.loop-curve-test.true) in
+    (rw c.curves-curve-items.ensures.curves written, search rules)
