@@ -86,8 +86,8 @@ fn hand_over(circuit: &Circuit, found: &[i64; 16], volts: &mut [i64; 16])
     places::take(found, 0, circuit.nodes() + 1, volts);
 }
 
-// The driven nodes stand at the sample's drives; the free nodes at any proposal. The search has an array
-// of its own, so that a refusal leaves the voltages too.
+// The driven nodes stand at the sample's drives; the free nodes at any proposal. The search has a point of
+// its own, so that a refusal leaves the voltages too.
 pub fn sample(circuit: &Circuit, volts: &mut [i64; 16], stored: &mut [i64; 32]) -> Number
     requires { Playable circuit.now.board circuit.now.stretches stored.old }
     ensures { Leaves (network_on circuit.now.board circuit.now.stretches) stored.old stored.new volts.old volts.new result }
