@@ -12,7 +12,7 @@ use std::io;
 use std::io::Read;
 use std::rt::Files;
 use units::bytes;
-use writing::Written;
+use writing::Refusal;
 
 // A proved loop has to end. No file has so many records.
 const ENOUGH: u64 = 4611686018427387904;
@@ -36,15 +36,14 @@ fn write_number(out: &impl Print, n: u64) -> io::Result<()> {
 }
 
 // Writes the image of a record's parts, in the version that is given, if one is.
-fn write(raw: &[u8], buffer: &mut [u8]) -> Written
+fn write(raw: &[u8], buffer: &mut [u8]) -> Result<usize, Refusal>
     requires { 1334 ≤ length raw.now }
 {
     let parts = record::parts(raw);
-    if record::has_version(raw) {
-        let version = record::version(raw);
-        return writing::write_version(version, parts, buffer);
+    match record::version(raw) {
+        Some(version) => writing::write_version(version, parts, buffer),
+        None => writing::write(parts, buffer),
     }
-    writing::write(parts, buffer)
 }
 
 // Writes the image of a record's parts, and then the answer.
@@ -53,9 +52,12 @@ fn answer(out: &impl Print, raw: &[u8]) -> io::Result<()>
 {
     let n = record::room(raw);
     let mut buffer = unwritten();
-    let written = write(raw, &mut buffer[..n]);
-    write_number(out, written.number)?;
-    write_number(out, written.length as u64)?;
+    let (number, length) = match write(raw, &mut buffer[..n]) {
+        Ok(length) => (0, length),
+        Err(refusal) => (refusal.number(), 0),
+    };
+    write_number(out, number)?;
+    write_number(out, length as u64)?;
     out.write_all(&buffer[..n])
 }
 

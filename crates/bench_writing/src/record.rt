@@ -4,6 +4,7 @@
 ghost use Rattle.std.specs.Prelude.{◌+◌, ◌≤◌, ◌<◌, length};
 
 use image::{Curve, Element, Parts};
+use std::array;
 use units::bytes;
 
 // Bytes of a record.
@@ -37,55 +38,35 @@ fn element(raw: &[u8], at: usize) -> Element
 fn elements(raw: &[u8]) -> [Element; 32]
     requires { 1334 ≤ length raw.now }
 {
-    let none = image::no_parts();
-    let mut elements = none.elements;
-    for j in 0..32usize {
-        elements[j] = element(raw, ELEMENTS + 8 * j);
-    }
-    elements
+    array::from_fn(|j| element(raw, ELEMENTS + 8 * j))
 }
 
 fn slopes(raw: &[u8], at: usize) -> [u32; 17]
     requires { at + 68 ≤ length raw.now }
 {
-    let mut slopes = [0; 17];
-    for j in 0..17usize {
-        slopes[j] = bytes::unsigned_at::<4>(raw, at + 4 * j) as u32;
-    }
-    slopes
+    array::from_fn(|j| bytes::unsigned_at::<4>(raw, at + 4 * j) as u32)
 }
 
 fn breakpoints(raw: &[u8], at: usize) -> [i32; 16]
     requires { at + 64 ≤ length raw.now }
 {
-    let mut breakpoints = [0; 16];
-    for j in 0..16usize {
-        breakpoints[j] = bytes::signed_at::<4>(raw, at + 4 * j) as i32;
-    }
-    breakpoints
+    array::from_fn(|j| bytes::signed_at::<4>(raw, at + 4 * j) as i32)
 }
 
 fn curve(raw: &[u8], at: usize) -> Curve
     requires { at + 133 ≤ length raw.now }
 {
-    let slopes = slopes(raw, at + 1);
-    let breakpoints = breakpoints(raw, at + BREAKPOINTS);
     Curve {
         count: raw[at],
-        slopes,
-        breakpoints,
+        slopes: slopes(raw, at + 1),
+        breakpoints: breakpoints(raw, at + BREAKPOINTS),
     }
 }
 
 fn curves(raw: &[u8]) -> [Curve; 8]
     requires { 1334 ≤ length raw.now }
 {
-    let none = image::no_curve();
-    let mut curves = [none; 8];
-    for k in 0..8usize {
-        curves[k] = curve(raw, CURVES + CURVE * k);
-    }
-    curves
+    array::from_fn(|k| curve(raw, CURVES + CURVE * k))
 }
 
 // How long the buffer is to be.
@@ -96,25 +77,19 @@ pub fn room(raw: &[u8]) -> usize
     bytes::unsigned_at::<2>(raw, 0) as usize % LONG
 }
 
-// Whether the writer is given a version.
-pub fn has_version(raw: &[u8]) -> bool
+// The version that the writer is given, if it is given one.
+pub fn version(raw: &[u8]) -> Option<u8>
     requires { 1334 ≤ length raw.now }
 {
-    raw[2] != 0
-}
-
-// Which one, if it is.
-pub fn version(raw: &[u8]) -> u8
-    requires { 1334 ≤ length raw.now }
-{
-    raw[3]
+    if raw[2] == 0 {
+        return None;
+    }
+    Some(raw[3])
 }
 
 pub fn parts(raw: &[u8]) -> Parts
     requires { 1334 ≤ length raw.now }
 {
-    let elements = elements(raw);
-    let curves = curves(raw);
     Parts {
         version: raw[4],
         nodes: raw[5],
@@ -122,8 +97,8 @@ pub fn parts(raw: &[u8]) -> Parts
         output: raw[7],
         rate: bytes::unsigned_at::<4>(raw, 8) as u32,
         element_count: raw[12],
-        elements,
+        elements: elements(raw),
         curve_count: raw[13],
-        curves,
+        curves: curves(raw),
     }
 }

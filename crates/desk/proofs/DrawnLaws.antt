@@ -4,6 +4,7 @@ use mathlib.Core.Path.{◌≡◌, refl, sym, ◌∙◌}
 use mathlib.Core.Bool.{Bool, true, false, cond}
 use mathlib.Core.List.{List}
 use mathlib.Core.Logic.{⊎_elim}
+use Rattle.std.specs.Prelude.{Result}
 use Prim.Native.Nat.{ℕ, ◌+◌, ◌*◌, ◌≤◌, ◌<◌}
 use native.Mathlib.Omega.{arith}
 use lib.Dec.{eqb}
@@ -15,8 +16,9 @@ use Rattle.image.specs.Parts.{version1, version2, in_version}
 use Rattle.image.proofs.Versions.{none_above}
 use Rattle.netlist.specs.Answer.{Answer, answer_number, answer_line, answer_parts, Answers}
 use Rattle.netlist.specs.Kept.{most_byte, byte}
-use Rattle.writing.specs.Writes.{buffer_beside, Writes}
-use Rattle.writing.specs.declared.writer.Written.{Written}
+use Rattle.writing.specs.Writes.{number_in, length_in, buffer_beside, Writes}
+use Rattle.writing.specs.declared.writer.Refusal.{Refusal}
+use Rattle.writing.proofs.Answers.{writes_number, writes_length}
 use Rattle.writing.proofs.Promise.{version_answer}
 use Rattle.desk.specs.Drawn.{number_unit, call_number, call_count, Drawn}
 use Rattle.desk.proofs.Counts.{line_small}
@@ -36,15 +38,15 @@ module _ (version : ℕ) (text before : List ℕ) (a : Answer) (answers : Answer
       }
 
   -- one that passes is answered as the writer does
-  pub drawn_written : answer_number a ≡ 0 → {w : Written} {after : List ℕ} {r : ℕ} → Writes (in_version version (answer_parts a)) before w after → w.length < number_unit → r ≡ w.number * number_unit + w.length → Drawn version text before r after
+  pub drawn_written : answer_number a ≡ 0 → {w : Result ℕ Refusal} {after : List ℕ} {r : ℕ} → Writes (in_version version (answer_parts a)) before w after → length_in w < number_unit → r ≡ number_in w * number_unit + length_in w → Drawn version text before r after
   unfolding call_number call_count
   drawn_written e writes short packed =
       let yes = eq-eqb (answer_number a) 0 e in
       record {
         answer = a;
         answers = answers;
-        packed = packed ∙ rw (yes, writes.number, writes.length);
-        small = rw yes (omega (arith, writes.length, short));
+        packed = packed ∙ rw (yes, writes_number writes, writes_length writes);
+        small = rw yes (omega (arith, writes_length writes, short));
         buffer = rw yes writes.buffer;
       }
 

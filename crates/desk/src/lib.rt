@@ -23,10 +23,10 @@ fn draw(version: u8, text: &[u8], image: &mut [u8]) -> u64
     ensures { Drawn version text.now image.old result image.new }
 {
     match netlist::read(text) {
-        Ok(parts) => {
-            let written = writing::write_version(version, parts, image);
-            packed(written.number, written.length as u64)
-        }
+        Ok(parts) => match writing::write_version(version, parts, image) {
+            Ok(length) => packed(0, length as u64),
+            Err(refusal) => packed(refusal.number(), 0),
+        },
         Err(refusal) => packed(refusal.number(), refusal.line() as u64),
     }
 }

@@ -67,7 +67,7 @@ fn put_image(buffer: &mut [u8], parts: Parts) -> usize
     requires { (judged parts ≡ Done) × (longest ≤ length buffer.old) }
     ensures { IsPrefixLen result buffer.new × (take result buffer.new ≡ image_of parts) }
 {
-    writing::write_version(parts.version, parts, buffer).length
+    writing::write_version(parts.version, parts, buffer).unwrap()
 }
 
 // The image into the file that argument i names, if one is wanted.

@@ -19,8 +19,9 @@ use Rattle.image.specs.declared.parts.Curve.{Curve}
 use Rattle.image.specs.declared.parts.Parts.{Parts}
 use Rattle.image.proofs.Judging.{judged_keeps}
 use Rattle.image.proofs.Says.{header_says, curve_size}
+use Rattle.std.specs.Prelude.{Ok}
 use Rattle.writing.specs.Image.{curve_bytes, image_of}
-use Rattle.writing.specs.Writes.{answer_for, length_beside}
+use Rattle.writing.specs.Writes.{answer_for, result_for, length_beside}
 use Rattle.writing.proofs.Answers.{answer-judged}
 use Rattle.writing.proofs.Overlaying.{curve_length_lem, image_length}
 
@@ -59,6 +60,10 @@ image_short parts e =
 pub answers_enough : (parts : Parts) (room : ℕ) → judged parts ≡ Done → longest ≤ room → answer_for parts room ≡ 0
 unfolding answer_for
 answers_enough parts room done enough = rw (done, le-leb (length (image_of parts)) room (omega (arith, image_short parts done)))
+
+pub result_enough : (parts : Parts) (room : ℕ) → judged parts ≡ Done → longest ≤ room → result_for parts room ≡ Ok (length (image_of parts))
+unfolding result_for
+result_enough parts room done enough = rw (done, le-leb (length (image_of parts)) room (omega (arith, image_short parts done)))
 
 -- the length that the writer answers is never more
 pub length_beside_short : (parts : Parts) (room : ℕ) → length_beside (answer_for parts room) parts ≤ longest

@@ -9,7 +9,7 @@ use Prim.Native.Nat.{ℕ, ◌+◌, ◌*◌, ◌≤◌, ◌<◌}
 use native.Mathlib.Omega.{arith}
 use lib.ListN.{length, get_or, take, drop}
 use lib.Seq.{take-append_seam}
-use borrow.Author.Tests.{eq-eqb}
+use borrow.Author.Tests.{eq-eqb, le-leb}
 use Rattle.units.specs.Number.{number_of}
 use Rattle.units.specs.Table.{between}
 use Rattle.units.proofs.Every.{between_says, every_each}
@@ -29,15 +29,16 @@ use Rattle.image.specs.declared.parts.Parts.{Parts}
 use Rattle.writing.specs.Accepted.{Accepted, number_for, image_number}
 use Rattle.writing.specs.Image.{curve_bytes, elements_bytes, curves_bytes, image_of}
 use Rattle.writing.specs.Reached.{reached, InWidths}
-use Rattle.writing.specs.Writes.{answer_for, Writes}
-use Rattle.writing.proofs.Answers.{answers-image, answer-judged}
+use Rattle.writing.specs.Writes.{answer_for, result_for, Writes}
+use Rattle.writing.proofs.Answers.{answers-image, answer-judged, writes_number, writes_length}
 use Rattle.writing.proofs.Elements.{element_distance_read, curve_distance_read, size_read}
 use Rattle.writing.proofs.Longest.{length_fits_lem}
 use Rattle.writing.proofs.Overlaying.{elements_length, image_length}
 use Rattle.writing.proofs.ReachedLaws.{header_reached, sizes_reached, curves_reached, elements_reached, conductances_reached, network_reached}
 use Rattle.writing.proofs.ReadBack.{trailerPlace, trailer_place, trailer_at_end, header_back, curve_start_lem, curve_bytes_back, parts_back}
 use Rattle.writing.proofs.WriteBack.{written_back}
-use Rattle.writing.specs.declared.writer.Written.{Written}
+use Rattle.writing.specs.declared.writer.Refusal.{Refusal}
+use Rattle.std.specs.Prelude.{Result, Ok}
 
 and_true : (b : Bool) → (b && true) ≡ b
 and_true true = refl
@@ -45,17 +46,15 @@ and_true false = refl
 
 -- ---- one outcome
 
-pub write_once : (parts : Parts) (before : List ℕ) (r t : Written) (a b : List ℕ) → Writes parts before r a → Writes parts before t b → (r ≡ t) × (a ≡ b)
-write_once parts before r t a b p q = (same r t (p.number ∙ sym q.number) (p.length ∙ sym q.length), p.buffer ∙ sym q.buffer)
-  where
-    same : (r t : Written) → r.number ≡ t.number → r.length ≡ t.length → r ≡ t
-    same r t e f = rw (e, f)
+pub write_once : (parts : Parts) (before : List ℕ) (r t : Result ℕ Refusal) (a b : List ℕ) → Writes parts before r a → Writes parts before t b → (r ≡ t) × (a ≡ b)
+write_once parts before r t a b p q = (p.result ∙ sym q.result, p.buffer ∙ sym q.buffer)
 
--- beside 0 the image stands at the start of the buffer
-pub written_stands : (parts : Parts) (before : List ℕ) (r : Written) (after : List ℕ) → Writes parts before r after → r.number ≡ 0 → take r.length after ≡ image_of parts
-written_stands parts before r after w e =
-    let zero_is : answer_for parts (length before) ≡ 0 = sym w.number ∙ e in
-    rw (w.length, w.buffer, zero_is) (take-append_seam (image_of parts) (drop (length (image_of parts)) before))
+-- where it is written the image stands at the start of the buffer
+pub written_stands : (parts : Parts) (before : List ℕ) (n : ℕ) (after : List ℕ) → Writes parts before (Ok n) after → take n after ≡ image_of parts
+written_stands parts before n after w =
+    let zero_is : answer_for parts (length before) ≡ 0 = sym (writes_number w) in
+    let long : n ≡ length (image_of parts) = writes_length w ∙ rw zero_is in
+    rw (long, w.buffer, zero_is) (take-append_seam (image_of parts) (drop (length (image_of parts)) before))
 
 -- ---- reading what was written
 
@@ -139,11 +138,11 @@ read_back parts small e =
       conductances = conductances_reached parts h plain ∙ keeps.conductances;
     }
 
--- so it is what the writer leaves, where it answers by 0
-pub write_read : (version : ℕ) (parts : Parts) → InWidths (in_version version parts) → (before : List ℕ) (r : Written) (after : List ℕ) → Writes (in_version version parts) before r after → r.number ≡ 0 → Accepted (take r.length after) (reached (in_version version parts))
-write_read version parts small before r after w e =
+-- so it is what the writer leaves, where it hands back a length
+pub write_read : (version : ℕ) (parts : Parts) → InWidths (in_version version parts) → (before : List ℕ) (n : ℕ) (after : List ℕ) → Writes (in_version version parts) before (Ok n) after → Accepted (take n after) (reached (in_version version parts))
+write_read version parts small before n after w =
     let whole = in_version version parts in
-    rw (written_stands whole before r after w e) (read_back whole small (answer-judged whole (length before) (sym w.number ∙ e)))
+    rw (written_stands whole before n after w) (read_back whole small (answer-judged whole (length before) (sym (writes_number w))))
 
 -- parts whose image is accepted break no rule
 accepted_keeps : (parts : Parts) → InWidths parts → (found : Parts) → Accepted (image_of parts) found → Keeps parts
@@ -183,12 +182,13 @@ write_back image bytes parts a =
     (opened_judged image parts a.opening ∙ rw a.conductances, ap image_of kept.is ∙ written_back image bytes (rw kept.is at kept))
 
 -- so the writer makes it of them when it is given their version, in a buffer that has room for it
-pub write_again : (image : List ℕ) → ((i : ℕ) → get_or image i 0 < 256) → (parts : Parts) → Accepted image parts → (before : List ℕ) → length image ≤ length before → (r : Written) (after : List ℕ) → Writes (in_version parts.version parts) before r after → (r.number ≡ 0) × (after ≡ image ++ drop (length image) before)
+pub write_again : (image : List ℕ) → ((i : ℕ) → get_or image i 0 < 256) → (parts : Parts) → Accepted image parts → (before : List ℕ) → length image ≤ length before → (r : Result ℕ Refusal) (after : List ℕ) → Writes (in_version parts.version parts) before r after → (r ≡ Ok (length image)) × (after ≡ image ++ drop (length image) before)
+unfolding result_for
 write_again image bytes parts a before room r after w =
     let back = write_back image bytes parts a in
     let answer = answers-image parts before (ap number_of back.0) (rw back.1 room) in
     let own = rw (own_version parts) at w in
-    (own.number ∙ answer, own.buffer ∙ rw (answer, back.1))
+    (own.result ∙ rw (back.0, back.1, le-leb (length image) (length before) room), own.buffer ∙ rw (answer, back.1))
 
 -- and there is one accepted image for given parts
 pub one_image : (a b : List ℕ) → ((i : ℕ) → get_or a i 0 < 256) → ((i : ℕ) → get_or b i 0 < 256) → (parts : Parts) → Accepted a parts → Accepted b parts → a ≡ b
