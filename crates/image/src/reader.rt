@@ -51,7 +51,8 @@ fn curve_bytes_fit(image: &[u8], parts: &Parts) -> bool
     curve::paddings_fit(image, first, n) & rules::curves_fit(parts)
 }
 
-// Reads any bytes whatever. The lowest number that applies is the answer.
+// Reads any bytes whatever. The lowest number that applies refuses an image: one of 1 to 5, and never Done
+// (`read_early`, `read_never_done`).
 #[tactic(auto, unfolding(crate::specs::Format::opening_of))]
 pub fn read(image: &[u8]) -> Result<Parts, Number>
     ensures { Read image.now result }

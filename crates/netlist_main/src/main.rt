@@ -67,6 +67,7 @@ fn put_image(buffer: &mut [u8], parts: Parts) -> usize
     requires { (judged parts ≡ Done) × (longest ≤ length buffer.old) }
     ensures { IsPrefixLen result buffer.new × (take result buffer.new ≡ image_of parts) }
 {
+    // parts that break no rule have an image, and none is longer than the longest
     writing::write_version(parts.version, parts, buffer).unwrap()
 }
 
