@@ -1,6 +1,7 @@
 // The two ways to call a block: from Rattle with a state by value, and from C with bytes.
 ghost use Rattle.std.specs.Prelude.{◌≡◌};
 ghost use Rattle.block.specs.Block.{Plays};
+ghost use Rattle.units.specs.Number.{number_of};
 ghost use Rattle.block.specs.Call.{Called};
 
 use crate::ending::Ending;
@@ -16,20 +17,20 @@ pub struct State {
 // What comes back: document 01's number, how many samples were accepted, and the state after them.
 #[derive(Clone, Copy)]
 pub struct Played {
-    pub number: u64,
+    pub number: Number,
     pub count: u64,
     pub state: State,
 }
 
 // A block. Output places past the count keep their contents.
 pub fn block(image: &[u8], state: State, n: u64, drives: &[u8], outputs: &mut [u8]) -> Played
-    ensures { Plays image.now state n drives.now outputs.old result.number result.count result.state outputs.new }
+    ensures { Plays image.now state n drives.now outputs.old (number_of result.number) result.count result.state outputs.new }
 {
     let parts = match play::admit(image) {
         Ok(parts) => parts,
         Err(number) => {
             return Played {
-                number: u64::from(number),
+                number,
                 count: 0,
                 state,
             };
@@ -39,7 +40,7 @@ pub fn block(image: &[u8], state: State, n: u64, drives: &[u8], outputs: &mut [u
     let mut x = state::known(given);
     let ending = play::play(parts, n, drives, &mut x, outputs);
     Played {
-        number: u64::from(ending.number),
+        number: ending.number,
         count: ending.count,
         state: State { currents: x },
     }

@@ -7,7 +7,7 @@ use crate::matrix::Matrix;
 use crate::tangent::Tangent;
 use crate::way::Step;
 
-#[derive(Drop)]
+#[derive(Clone, Copy)]
 pub struct Memory {
     // The line that each element is taken as; of a stored element `at_zero` is old, and is never read.
     pub lines: [Tangent; 32],

@@ -10,14 +10,15 @@ use rendering::Turn;
 use std::io;
 use std::io::Read;
 use std::rt::Files;
+use units::number::Number;
 
 // A proved loop has to end. No file has so many samples.
 const ENOUGH: u64 = 4611686018427387904;
 
-// Document 01's number, 0 where every sample was accepted, and how many were, over all blocks.
+// Document 01's number, and how many samples were accepted, over all blocks.
 #[derive(Clone, Copy)]
 struct Finish {
-    number: u64,
+    number: Number,
     count: u64,
 }
 
@@ -52,7 +53,7 @@ fn blocks(out: &impl Print, image: &[u8], drives: &mut impl Read) -> io::Result<
         state = turn.state;
     }
     Ok(Finish {
-        number: 0,
+        number: Number::Done,
         count: total,
     })
 }
@@ -67,7 +68,7 @@ fn render(rt: &(impl Files + Print), image: &[u8], drives: &[u8]) -> io::Result<
         None => blocks(rt, &bytes[..n], &mut io::empty())?,
     };
     let mut text = [0u8; 56];
-    let end = rendering::put_ending(&mut text, finish.number, finish.count);
+    let end = rendering::put_ending(&mut text, u64::from(finish.number), finish.count);
     rt.write_all(&text[..end])
 }
 

@@ -1,16 +1,18 @@
 // One turn of rendering: as many drives as a block takes are played, and become lines.
 ghost use Rattle.std.specs.Prelude.{◌≡◌, ◌*◌, ◌≤◌, leb, length};
+ghost use Rattle.units.specs.Number.{number_of};
 ghost use Rattle.image.specs.Format.{opening_of};
 ghost use Rattle.rendering.specs.Rendering.{block_samples, driven_of, sets_in, Told};
 
 use crate::lines;
 use block::State;
+use units::number::Number;
 
 // What came of a block: document 01's number, how many samples were accepted, where their lines end,
 // and the state after them.
 #[derive(Clone, Copy)]
 pub struct Turn {
-    pub number: u64,
+    pub number: Number,
     pub count: u64,
     pub length: usize,
     pub state: State,
@@ -55,7 +57,7 @@ pub fn drive_bytes(image: &[u8]) -> usize
 // samples at the start of `text`. More sets than a block has, the block refuses.
 pub fn play(image: &[u8], state: State, drives: &[u8], text: &mut [u8]) -> Turn
     requires { 22528 ≤ length text.old }
-    ensures { Told image.now state drives.now text.old result.number result.count result.state result.length text.new }
+    ensures { Told image.now state drives.now text.old (number_of result.number) result.count result.state result.length text.new }
 {
     let n = sets(drives.len(), driven(image)) as u64;
     let mut outputs = [0u8; 4096];

@@ -4,7 +4,4 @@ use lib.ListN.{get_or}
 use Rattle.bench_circuit.proofs.ask.all_in_range.Given as goal
 
 abbrev pub invariant-loop-i : goal.invariant-loop-i
-invariant-loop-i l = (l.i ≤ 16) × ((k : ℕ) → k < l.i → nat_abs (get_or l.volts k (pos 0)) ≤ 2 ^ 25)
-
-abbrev pub decreases-loop-i : goal.decreases-loop-i
-decreases-loop-i l = 16 - l.i
+invariant-loop-i l = (k : ℕ) → k < l.i → nat_abs (get_or l.volts k (pos 0)) ≤ 2 ^ 25

@@ -5,7 +5,7 @@ use Rattle.block.specs.Block.{plays-on}
 use Rattle.block.proofs.call.block.Goals as goal
 
 pub returns-in-Err : goal.returns-in-Err
-returns-in-Err c = rw c.from.ensures (c.in-Err.ensures.1 _ _ _ _)
+returns-in-Err c = c.in-Err.ensures.1 _ _ _ _
 
 pub play-ending-requires : goal.play-ending-requires
 play-ending-requires c =
@@ -17,4 +17,4 @@ pub returns : goal.returns
 returns c =
     let o = c.in-Ok.ensures in
     let k = c.known-x.ensures.0 in
-    rw c.from-2.ensures (plays-on o.0 o.1 (rw k at c.play-ending.ensures.plays))
+    plays-on o.0 o.1 (rw k at c.play-ending.ensures.plays)
