@@ -35,7 +35,7 @@ fn to_bits(z: i64) -> u64
     ensures { result ≡ of_z w64 z }
 {
     let n = signed::size(z);
-    if signed::less(z, 0) {
+    if z < 0 {
         18446744073709551615 - (n - 1)
     } else {
         n

@@ -1,58 +1,7 @@
-// Arithmetic on i64, one operation to a function, with contracts in ℤ.
-//
-// In code a signed operation reads its operands back from their bits, so that nested expressions
-// make long goals. Code that calls these instead needs facts about ℤ alone, and the compiler inlines
-// the calls. Code that writes the operators rests on the laws at the end of `proofs/Sizes.antt`.
-ghost use Rattle.std.specs.Prelude.{◌≡◌, ℕ, ◌+◌, ◌*◌, ◌^◌, ◌<◌, ◌≤◌, ℤ, pos, ◌+ℤ◌, ◌-ℤ◌, ◌*ℤ◌, int_le, int_lt, unsigned_abs};
+// How large a number with a sign is, and a quotient rounded up. Sums, products and orders of i64 are written with the
+// language's operators, and rest on the laws at the end of `proofs/Sizes.antt`.
+ghost use Rattle.std.specs.Prelude.{◌≡◌, ◌+◌, ◌^◌, ◌<◌, ◌≤◌, unsigned_abs};
 ghost use Rattle.units.specs.Integer.{rounded_up};
-
-pub fn plus(a: i64, b: i64) -> i64
-    requires { unsigned_abs a + unsigned_abs b < 2 ^ 63 }
-    ensures { result ≡ a +ℤ b }
-{
-    a + b
-}
-
-pub fn minus(a: i64, b: i64) -> i64
-    requires { unsigned_abs a + unsigned_abs b < 2 ^ 63 }
-    ensures { result ≡ a -ℤ b }
-{
-    a - b
-}
-
-pub fn times(a: i64, b: i64) -> i64
-    requires { unsigned_abs a * unsigned_abs b < 2 ^ 63 }
-    ensures { result ≡ a *ℤ b }
-{
-    a * b
-}
-
-pub fn less(a: i64, b: i64) -> bool
-    ensures { result ≡ int_lt a b }
-{
-    a < b
-}
-
-pub fn at_most(a: i64, b: i64) -> bool
-    ensures { result ≡ int_le a b }
-{
-    a <= b
-}
-
-// A number without a sign as one with a sign.
-pub fn whole(n: u64) -> i64
-    requires { n < 2 ^ 63 }
-    ensures { result ≡ pos n }
-{
-    n as i64
-}
-
-// A number of 32 bits at 64.
-pub fn widened(x: i32) -> i64
-    ensures { result ≡ x }
-{
-    x as i64
-}
 
 // How large a number is, whatever its sign.
 pub fn size(z: i64) -> u64

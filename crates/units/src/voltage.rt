@@ -33,7 +33,7 @@ fn nearest_size(y: f64) -> i64
     ensures value { result ≡ nearest_size y }
     ensures result_bound { unsigned_abs result ≤ 2 ^ 62 }
 {
-    signed::whole((std::num::truncating_f64_to_u64(y + y) + 1) / 2)
+    ((std::num::truncating_f64_to_u64(y + y) + 1) / 2) as i64
 }
 
 impl Voltage {
@@ -61,14 +61,14 @@ impl Voltage {
     pub fn above_bottom(self) -> bool
         ensures { result ≡ above_bottom self.microvolts }
     {
-        signed::less(signed::minus(0, Voltage::LIMIT), self.microvolts)
+        -Voltage::LIMIT < self.microvolts
     }
 
     // Whether it stands below the top of the range.
     pub fn below_top(self) -> bool
         ensures { result ≡ below_top self.microvolts }
     {
-        signed::less(self.microvolts, Voltage::LIMIT)
+        self.microvolts < Voltage::LIMIT
     }
 
     // The voltage in range that is nearest to v.
@@ -79,8 +79,8 @@ impl Voltage {
         if u.in_range() {
             return v;
         }
-        if signed::less(v, 0) {
-            return signed::minus(0, Voltage::LIMIT);
+        if v < 0 {
+            return -Voltage::LIMIT;
         }
         Voltage::LIMIT
     }
@@ -106,7 +106,7 @@ impl Voltage {
         if x < 0.0 {
             let y = -x;
             if y < 4611686018427387904.0 {
-                return ranged(signed::minus(0, nearest_size(y)));
+                return ranged(-nearest_size(y));
             }
             return None;
         }

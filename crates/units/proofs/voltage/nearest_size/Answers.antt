@@ -1,4 +1,5 @@
-use Rattle.std.proofs.Common.{◌≡◌, ◌^◌, ◌<◌, T, ◌∙◌, arith, w64, to_z, of_z, rules}
+use Rattle.std.proofs.Common.{◌≡◌, ℕ, ◌+◌, ◌/◌, ◌^◌, ◌<◌, T, ap, ◌∙◌, arith, w64, to_z, pos, rules}
+use Rattle.std.proofs.lemmas.Int.{to_z_pos}
 use lib.Ieee.{fits, binary64}
 use Rattle.units.proofs.Rounding.{size_asks, size_gives}
 use Rattle.units.proofs.voltage.nearest_size.Goals as goal
@@ -15,17 +16,16 @@ cut c =
     let t : T (fits binary64 c.args.y) = search rules in
     rw c.truncating_f64_to_u64.ensures (size_gives c.args.y t c.requires).1
 
-pub overflow_add-truncating_f64_to_u64 : goal.overflow_add-truncating_f64_to_u64
-overflow_add-truncating_f64_to_u64 c = omega (arith, cut c)
+pub overflow_add-result : goal.overflow_add-result
+overflow_add-result c = record { fits = omega (arith, cut c) }
 
-pub whole-requires : goal.whole-requires
-whole-requires c = omega (arith, cut c)
+pub overflow_cast-result : goal.overflow_cast-result
+overflow_cast-result c = record { sfits = omega (arith, cut c) }
 
 pub returns : goal.returns
 returns c =
     let y = c.args.y in
     let t : T (fits binary64 y) = search rules in
-    let e : to_z w64 (of_z w64 c.whole.result) ≡ c.whole.result = search rules in
-    let is = e ∙ c.whole.ensures in
-    let cast = rw c.truncating_f64_to_u64.ensures at is in
-    record { value = cast ∙ (size_gives y t c.requires).0; result_bound = rw is (omega (arith, cut c.before)) }
+    let small : (c.truncating_f64_to_u64.result + 1) / 2 < 2 ^ 63 = omega (arith, cut c) in
+    let cast : to_z w64 ((c.truncating_f64_to_u64.result + 1) / 2) ≡ pos ((c.truncating_f64_to_u64.result + 1) / 2) = to_z_pos w64 _ small in
+    record { value = cast ∙ ap (λ (r : ℕ). pos ((r + 1) / 2)) c.truncating_f64_to_u64.ensures ∙ (size_gives y t c.requires).0; result_bound = rw cast (omega (arith, cut c)) }

@@ -8,17 +8,14 @@ returns-then-in_range c =
     let e = to_z-of_z c.ranges.v in
     rw (e, rw e at (sym c.in_range.ensures ∙ c.if-in_range.true))
 
-pub returns-then-less : goal.returns-then-less
+pub returns-then-v-lt0 : goal.returns-then-v-lt0
 unfolding clamped
-returns-then-less c =
-    let s = c.before.before.before.before.before in
-    let e = to_z-of_z s.ranges.v in
-    let m : to_z w64 (of_z w64 c.minus.result) ≡ c.minus.result = search rules in
-    rw (m ∙ c.minus.ensures, rw e at (sym c.in_range.ensures ∙ c.if-in_range.false), rw e at (sym c.less.ensures ∙ c.if-less.true))
+returns-then-v-lt0 c =
+    let e = to_z-of_z c.ranges.v in
+    rw (rw e at (sym c.in_range.ensures ∙ c.if-in_range.false), rw e at c.if-v-lt0.true)
 
 pub returns : goal.returns
 unfolding clamped
 returns c =
-    let s = c.before.before.before.before in
-    let e = to_z-of_z s.ranges.v in
-    rw (rw e at (sym c.in_range.ensures ∙ c.if-in_range.false), rw e at (sym c.less.ensures ∙ c.if-less.false))
+    let e = to_z-of_z c.ranges.v in
+    rw (rw e at (sym c.in_range.ensures ∙ c.if-in_range.false), rw e at c.if-v-lt0.false)

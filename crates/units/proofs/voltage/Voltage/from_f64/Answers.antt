@@ -1,4 +1,5 @@
-use Rattle.std.proofs.Common.{◌≡◌, neg_ℤ, ap, ◌∙◌, w64, to_z, of_z, rules}
+use Rattle.std.proofs.Common.{◌≡◌, pos, neg_ℤ, refl, ap, ◌∙◌, arith, w64, to_z, of_z, rules}
+use Rattle.units.proofs.Sizes.{minus_is}
 use lib.Ieee.{of_bits}
 use lib.IntN.{+ℤ_idl}
 use Rattle.units.specs.Float.{rounded}
@@ -33,9 +34,8 @@ returns-then-y c =
     let k = positive_neg x c.if-x-3.true c.if-y.true in
     let n = c.nearest_size-then-y.result in
     let e : to_z w64 (of_z w64 n) ≡ n = search rules in
-    let m = c.minus.result in
-    let d : to_z w64 (of_z w64 m) ≡ m = search rules in
-    let turned = d ∙ c.minus.ensures ∙ +ℤ_idl (neg_ℤ (to_z w64 (of_z w64 n))) ∙ ap neg_ℤ (e ∙ c.nearest_size-then-y.ensures.value) in
+    let d = minus_is (pos 0) (to_z w64 (of_z w64 n)) (pos 0) n refl e (omega (arith, c.nearest_size-then-y.ensures.result_bound)) in
+    let turned = d ∙ +ℤ_idl (neg_ℤ n) ∙ ap neg_ℤ c.nearest_size-then-y.ensures.value in
     c.ranged-then-y.ensures ∙ ap rounded turned ∙ below_zero x k
 
 pub returns-then-x-3 : goal.returns-then-x-3
