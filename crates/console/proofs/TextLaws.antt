@@ -14,8 +14,9 @@ use lib.Signed.{lt_z}
 use borrow.Author.Tests.{ltb-true, ltb-false, lt-ltb}
 use Rattle.io.specs.Digits.{hex_digit_ascii, last_digits, IsDigitCount}
 use Rattle.units.specs.Table.{overlaid}
-use Rattle.units.proofs.Tables.{overlaid-append}
-use Rattle.console.specs.Text.{decimal_in, decimal, sign, Adds}
+use Rattle.units.proofs.Tables.{overlaid-length, overlaid-append}
+use Rattle.console.specs.Text.{decimal_in, decimal, sign, Adds, Puts}
+use Rattle.console.specs.declared.text.Text.{Text}
 
 -- ---- texts in a buffer
 
@@ -45,6 +46,24 @@ adds_then {v} {w} {at = at} {r = r} {a = a} p q =
 -- with more room
 pub adds_within : {w : List ℕ} {m n at r : ℕ} {a b : List ℕ} → m ≤ n → Adds w m at a r b → Adds w n at a r b
 adds_within h p = record { short = omega (arith, p.short); moved = p.moved; buffer = p.buffer }
+
+-- ---- texts at a cursor
+
+-- a text that was added in the same buffer
+pub puts_added : {w : List ℕ} {m : ℕ} {a b : Text} → b.buffer.ghost_name ≡ a.buffer.ghost_name → Adds w m a.end a.buffer.now b.end b.buffer.now → Puts w m a b
+puts_added s p = record { same_buffer = s; as_long = rw p.buffer (overlaid-length _ _ _); adds = p }
+
+-- a text and then another
+pub puts_then : {v w : List ℕ} {m n : ℕ} {a b c : Text} → Puts v m a b → Puts w n b c → Puts (v ++ w) (m + n) a c
+puts_then p q = record { same_buffer = q.same_buffer ∙ p.same_buffer; as_long = q.as_long ∙ p.as_long; adds = adds_then p.adds q.adds }
+
+-- with more room
+pub puts_within : {w : List ℕ} {m n : ℕ} {a b : Text} → m ≤ n → Puts w m a b → Puts w n a b
+puts_within h p = record { same_buffer = p.same_buffer; as_long = p.as_long; adds = adds_within h p.adds }
+
+-- no text
+pub puts_none : {m : ℕ} {a : Text} → Puts [] m a a
+puts_none = record { same_buffer = refl; as_long = refl; adds = adds_none }
 
 -- ---- numbers in decimal
 

@@ -1,6 +1,7 @@
 -- Text as the programs write it, in ASCII. Assumes nothing.
 use Rattle.std.specs.Prelude.{◌≡◌, cond, List, [], ◌∷◌, ◌++◌, ℕ, zero, suc, ◌+◌, ◌/◌, ◌%◌, ◌≤◌, ltb, ℤ, pos, negsuc, nat_abs, length}
 use Rattle.units.specs.Table.{overlaid}
+use Rattle.console.specs.declared.text.Text.{Text}
 
 -- a number in decimal, where it has at most so many digits: its only digit, or the digits of a tenth of it and then its last
 unfoldable pub decimal_in : ℕ → ℕ → List ℕ
@@ -39,3 +40,13 @@ pub record Adds (text : List ℕ) (most at : ℕ) (before : List ℕ) (r : ℕ) 
   pub short : length text ≤ most
   pub moved : r ≡ at + length text
   pub buffer : after ≡ overlaid before at text
+
+-- a cursor has room for so many bytes
+abbrev pub HasRoom : ℕ → Text → Type 0
+HasRoom n text = text.end + n ≤ length text.buffer.now
+
+-- a text was put at a cursor: it was added to the cursor's buffer, which is the same and as long as it was, and ends where the cursor is now
+pub record Puts (text : List ℕ) (most : ℕ) (before after : Text) : Type 0 where
+  pub same_buffer : after.buffer.ghost_name ≡ before.buffer.ghost_name
+  pub as_long : length after.buffer.now ≡ length before.buffer.now
+  pub adds : Adds text most before.end before.buffer.now after.end after.buffer.now

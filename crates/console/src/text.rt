@@ -1,63 +1,82 @@
-// Text in a lent buffer, put together from left to right: each function writes from `at` on, answers
-// where its text ends, and leaves every other byte as it was.
-ghost use Rattle.std.specs.Prelude.{◌+◌, ◌≤◌, length};
-ghost use Rattle.console.specs.Text.{decimal, sign, number, line, refused_line, Adds};
+// Text in a lent buffer, put together from left to right: what is put stands from the cursor's end on, and
+// every other byte is as it was.
+ghost use Rattle.std.specs.Prelude.{◌≡◌, ◌≤◌, length};
+ghost use Rattle.console.specs.Text.{decimal, sign, number, line, refused_line, Adds, HasRoom, Puts};
 
-// A word as it stands.
-pub fn put_word(text: &mut [u8], at: usize, word: &[u8]) -> usize
-    requires { at + length word.now ≤ length text.old }
-    ensures { Adds word.now (length word.now) at text.old result text.new }
-{
-    let end = at + word.len();
-    text[at..end].copy_from_slice(word);
-    end
+// A cursor: the text in `buffer` ends at `end`.
+#[derive(Drop)]
+pub struct Text<'a> {
+    pub buffer: &'a mut [u8],
+    pub end: usize,
 }
 
-// A number's decimal digits.
-pub fn put_decimal(text: &mut [u8], at: usize, n: u64) -> usize
-    requires { at + 20 ≤ length text.old }
-    ensures { Adds (decimal n) 20 at text.old result text.new }
-{
-    let mut spelt = [0u8; 20];
-    let k = io::decimal(n, &mut spelt);
-    put_word(text, at, &spelt[..k])
-}
-
-// The sign of a number below zero.
-fn put_sign(text: &mut [u8], at: usize, z: i64) -> usize
-    requires { at + 1 ≤ length text.old }
-    ensures { Adds (sign z) 1 at text.old result text.new }
-{
-    if z < 0 {
-        return put_word(text, at, b"-");
+impl<'a> Text<'a> {
+    // No text yet, at the start of a buffer.
+    pub fn new(buffer: &'a mut [u8]) -> Text<'a>
+        ensures same_reference { result.buffer.ghost_name ≡ buffer.entry.ghost_name }
+        ensures bytes { result.buffer.now ≡ buffer.old }
+        ensures end { result.end ≡ 0 }
+    {
+        Text { buffer, end: 0 }
     }
-    at
+
+    // A word as it stands.
+    pub fn put_word(&mut self, word: &[u8])
+        requires { HasRoom (length word.now) self.old }
+        ensures { Puts word.now (length word.now) self.old self.new }
+    {
+        let end = self.end + word.len();
+        self.buffer[self.end..end].copy_from_slice(word);
+        self.end = end;
+    }
+
+    // A number's decimal digits.
+    pub fn put_decimal(&mut self, n: u64)
+        requires { HasRoom 20 self.old }
+        ensures { Puts (decimal n) 20 self.old self.new }
+    {
+        let mut spelt = [0u8; 20];
+        let k = io::decimal(n, &mut spelt);
+        self.put_word(&spelt[..k]);
+    }
+
+    // The sign of a number below zero.
+    fn put_sign(&mut self, z: i64)
+        requires { HasRoom 1 self.old }
+        ensures { Puts (sign z) 1 self.old self.new }
+    {
+        if z < 0 {
+            self.put_word(b"-");
+        }
+    }
+
+    // A number with its sign.
+    pub fn put_number(&mut self, z: i64)
+        requires { HasRoom 21 self.old }
+        ensures { Puts (number z) 21 self.old self.new }
+    {
+        self.put_sign(z);
+        self.put_decimal(z.unsigned_abs());
+    }
+
+    // The same, and the line's end.
+    pub fn put_line(&mut self, z: i64)
+        requires { HasRoom 22 self.old }
+        ensures { Puts (line z) 22 self.old self.new }
+    {
+        self.put_number(z);
+        self.put_word(b"\n");
+    }
 }
 
-// A number with its sign.
-pub fn put_number(text: &mut [u8], at: usize, z: i64) -> usize
-    requires { at + 21 ≤ length text.old }
-    ensures { Adds (number z) 21 at text.old result text.new }
+// `refused R`, as a line at the start of `buffer`. Where it ends.
+pub fn put_refused(buffer: &mut [u8], number: u64) -> usize
+    requires { 29 ≤ length buffer.old }
+    ensures { Adds (refused_line number) 29 0 buffer.old result buffer.new }
 {
-    let digits = put_sign(text, at, z);
-    put_decimal(text, digits, z.unsigned_abs())
-}
-
-// The same, and the line's end.
-pub fn put_line(text: &mut [u8], at: usize, z: i64) -> usize
-    requires { at + 22 ≤ length text.old }
-    ensures { Adds (line z) 22 at text.old result text.new }
-{
-    let end = put_number(text, at, z);
-    put_word(text, end, b"\n")
-}
-
-// `refused R`, as a line at the start of `text`.
-pub fn put_refused(text: &mut [u8], number: u64) -> usize
-    requires { 29 ≤ length text.old }
-    ensures { Adds (refused_line number) 29 0 text.old result text.new }
-{
-    let at = put_word(text, 0, b"refused ");
-    let after = put_decimal(text, at, number);
-    put_word(text, after, b"\n")
+    let mut text = Text::new(buffer);
+    text.put_word(b"refused ");
+    text.put_decimal(number);
+    text.put_word(b"\n");
+    text.end
 }

@@ -1,6 +1,6 @@
 // A file that is replaced as a whole: its name stands for its old bytes or for the new ones, whatever
 // fails between. No contract can say what is written, so this file is there to be read.
-use console::text;
+use console::text::Text;
 use std::fs::{File, OpenFile};
 use std::io::{ErrorKind, Stderr, Write};
 use std::rt::Files;
@@ -98,8 +98,10 @@ pub fn replace(files: &impl Files, err: Stderr, name: &[u8], bytes: &[u8]) {
         return;
     }
     let mut beside = outside::buffer();
-    let dot = text::put_word(&mut beside, 0, name);
-    let end = text::put_word(&mut beside, dot, b".part");
+    let mut part = Text::new(&mut beside);
+    part.put_word(name);
+    part.put_word(b".part");
+    let end = part.end;
     match (str::from_utf8(name), str::from_utf8(&beside[..end])) {
         (Ok(name), Ok(part)) => {
             if !is_replaceable(files, name) {

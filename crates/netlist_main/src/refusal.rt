@@ -4,29 +4,32 @@ ghost use Rattle.console.specs.Text.{Adds};
 ghost use Rattle.netlist_main.specs.Refusal.{refused_at, refusal};
 
 use console::text;
+use console::text::Text;
 use netlist::Refusal;
 
-// `refused R line N`, at the start of `text`.
-fn put_at(text: &mut [u8], number: u64, line: usize) -> usize
-    requires { 4096 ≤ length text.old }
-    ensures { Adds (refused_at number line) 4096 0 text.old result text.new }
+// `refused R line N`, at the start of `buffer`. Where it ends.
+fn put_at(buffer: &mut [u8], number: u64, line: usize) -> usize
+    requires { 4096 ≤ length buffer.old }
+    ensures { Adds (refused_at number line) 4096 0 buffer.old result buffer.new }
 {
-    let a = text::put_word(text, 0, b"refused ");
-    let b = text::put_decimal(text, a, number);
-    let c = text::put_word(text, b, b" line ");
-    let d = text::put_decimal(text, c, line as u64);
-    text::put_word(text, d, b"\n")
+    let mut text = Text::new(buffer);
+    text.put_word(b"refused ");
+    text.put_decimal(number);
+    text.put_word(b" line ");
+    text.put_decimal(line as u64);
+    text.put_word(b"\n");
+    text.end
 }
 
-// The line of a refusal, at the start of `text`. Where it ends.
-pub fn put(text: &mut [u8], why: Refusal) -> usize
-    requires { 4096 ≤ length text.old }
-    ensures { Adds (refusal why) 4096 0 text.old result text.new }
+// The line of a refusal, at the start of `buffer`. Where it ends.
+pub fn put(buffer: &mut [u8], why: Refusal) -> usize
+    requires { 4096 ≤ length buffer.old }
+    ensures { Adds (refusal why) 4096 0 buffer.old result buffer.new }
 {
     let number = why.number();
     match why {
-        Refusal::Rules(_) => text::put_refused(text, number),
-        Refusal::Grammar(line) => put_at(text, number, line),
-        Refusal::Value(line) => put_at(text, number, line),
+        Refusal::Rules(_) => text::put_refused(buffer, number),
+        Refusal::Grammar(line) => put_at(buffer, number, line),
+        Refusal::Value(line) => put_at(buffer, number, line),
     }
 }

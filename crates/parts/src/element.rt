@@ -1,10 +1,10 @@
 // The elements as lines of a netlist.
-ghost use Rattle.std.specs.Prelude.{◌≡◌, ◌+◌, ◌≤◌, length};
+ghost use Rattle.std.specs.Prelude.{◌≡◌, ◌≤◌};
 ghost use Rattle.network.specs.Network.{branch_limit};
-ghost use Rattle.console.specs.Text.{Adds};
+ghost use Rattle.console.specs.Text.{HasRoom, Puts};
 ghost use Rattle.parts.specs.Netlist.{last_number, element_line, element_lines};
 
-use console::text;
+use console::text::Text;
 use image::{Element, Parts};
 use network::kind;
 
@@ -19,27 +19,24 @@ fn last_number(e: Element) -> u64
 }
 
 // An element's line, with a number for its name: names need only begin with the letter.
-fn put_element(text: &mut [u8], at: usize, number: usize, e: Element) -> usize
-    requires { at + 85 ≤ length text.old }
-    ensures { Adds (element_line number e) 85 at text.old result text.new }
+fn put_element(text: &mut Text, number: usize, e: Element)
+    requires { HasRoom 85 text.old }
+    ensures { Puts (element_line number e) 85 text.old text.new }
 {
-    let letter = [report::letter(e.kind)];
-    let a = text::put_word(text, at, &letter);
-    let b = report::put_column(text, a, number as u64);
-    let c = report::put_column(text, b, e.p as u64);
-    let d = report::put_column(text, c, e.q as u64);
-    report::put_last(text, d, last_number(e))
+    text.put_word(&[report::letter(e.kind)]);
+    report::put_column(text, number as u64);
+    report::put_column(text, e.p as u64);
+    report::put_column(text, e.q as u64);
+    report::put_last(text, last_number(e));
 }
 
 // A line for each element, in the order of the image, which a reader keeps.
-pub fn put_elements(text: &mut [u8], at: usize, parts: Parts) -> usize
-    requires { (parts.element_count ≤ branch_limit) × (at + 2720 ≤ length text.old) }
-    ensures { Adds (element_lines parts parts.element_count) 2720 at text.old result text.new }
+pub fn put_elements(text: &mut Text, parts: Parts)
+    requires { (parts.element_count ≤ branch_limit) × HasRoom 2720 text.old }
+    ensures { Puts (element_lines parts parts.element_count) 2720 text.old text.new }
 {
     let elements = parts.elements;
-    let mut end = at;
     for (j, e) in elements[..parts.element_count as usize].iter().enumerate() {
-        end = put_element(text, end, j + 1, *e);
+        put_element(text, j + 1, *e);
     }
-    end
 }

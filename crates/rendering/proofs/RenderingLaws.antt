@@ -9,8 +9,9 @@ use native.Mathlib.Omega.{arith}
 use lib.IntN.{ℤ}
 use lib.ListN.{length}
 use borrow.Author.Tests.{ne_eqb}
-use Rattle.console.specs.Text.{decimal, line_end, line, refused_word, Adds}
-use Rattle.console.proofs.TextLaws.{adds_none, adds_then, adds_within}
+use Rattle.console.specs.Text.{decimal, line_end, line, refused_word, Puts}
+use Rattle.console.specs.declared.text.Text.{Text}
+use Rattle.console.proofs.TextLaws.{puts_none, puts_then, puts_within}
 use Rattle.image.specs.Format.{opening_of}
 use Rattle.image.specs.Opened.{Read}
 use Rattle.image.specs.declared.parts.Parts.{Parts}
@@ -52,16 +53,16 @@ module _ {image : List ℕ} {x : State} {n : ℕ} {drives outputs : List ℕ} wh
 
 -- no line yet, and one line more
 module _ (f : ℕ → ℤ) where
-  pub lines_none : {m : ℕ} {a : List ℕ} → Adds (lines f 0) m 0 a 0 a
+  pub lines_none : {m : ℕ} {a : Text} → Puts (lines f 0) m a a
   unfolding lines
-  lines_none = adds_none
+  lines_none = puts_none
 
-  pub lines_more : (n : ℕ) {at r : ℕ} {a b c : List ℕ} → Adds (lines f n) (22 * n) 0 a at b → Adds (line (f n)) 22 at b r c → Adds (lines f (n + 1)) (22 * (n + 1)) 0 a r c
+  pub lines_more : (n : ℕ) {a b c : Text} → Puts (lines f n) (22 * n) a b → Puts (line (f n)) 22 b c → Puts (lines f (n + 1)) (22 * (n + 1)) a c
   unfolding lines
-  lines_more n p q = rw (add-one n) (adds_within (omega arith) (adds_then p q))
+  lines_more n p q = rw (add-one n) (puts_within (omega arith) (puts_then p q))
 
 -- the last line of a number above zero
-pub ending_refused : (number count : ℕ) {m r : ℕ} {a b : List ℕ} → (number ≡ 0 → ⊥) → Adds (refused_word ++ (decimal number ++ (after_word ++ (decimal count ++ line_end)))) m 0 a r b → Adds (ending number count) m 0 a r b
+pub ending_refused : (number count : ℕ) {m : ℕ} {a b : Text} → (number ≡ 0 → ⊥) → Puts (refused_word ++ (decimal number ++ (after_word ++ (decimal count ++ line_end)))) m a b → Puts (ending number count) m a b
 ending_refused zero count h p = absurd (h refl)
 ending_refused (suc number) count h p = p
 

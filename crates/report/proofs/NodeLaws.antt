@@ -11,7 +11,8 @@ use Rattle.network.specs.Network.{Network, held, InLimits}
 use Rattle.network.specs.Bound.{Enough}
 use Rattle.network.proofs.Hold.{leak_held}
 use Rattle.network.proofs.Ranges.{steepest_fits}
-use Rattle.console.specs.Text.{Adds}
+use Rattle.console.specs.Text.{Puts}
+use Rattle.console.specs.declared.text.Text.{Text}
 use Rattle.image.specs.Conductance.{conductances_fit}
 use Rattle.image.specs.Meaning.{network_at}
 use Rattle.image.specs.Setting.{plain}
@@ -29,10 +30,10 @@ use Rattle.report.proofs.TurnLaws.{turn_none, turn_more}
 
 -- no node yet, and one more
 module _ (N : Network) where
-  pub nodes_none : {i m : ℕ} {a : List ℕ} → i ≡ N.driven → Adds (node_lines N (i - N.driven)) m 0 a 0 a
+  pub nodes_none : {i m : ℕ} {a : Text} → i ≡ N.driven → Puts (node_lines N (i - N.driven)) m a a
   nodes_none {i} e = let z : i - N.driven ≡ 0 = omega arith in rw z (turn_none _)
 
-  pub nodes_more : (i : ℕ) {at r : ℕ} {a b c : List ℕ} → N.driven ≤ i → Adds (node_lines N (i - N.driven)) (84 * (i - N.driven)) 0 a at b → Adds (node_line N (i + 1)) 84 at b r c → Adds (node_lines N (i + 1 - N.driven)) (84 * (i + 1 - N.driven)) 0 a r c
+  pub nodes_more : (i : ℕ) {a b c : Text} → N.driven ≤ i → Puts (node_lines N (i - N.driven)) (84 * (i - N.driven)) a b → Puts (node_line N (i + 1)) 84 b c → Puts (node_lines N (i + 1 - N.driven)) (84 * (i + 1 - N.driven)) a c
   nodes_more i h p q =
       let count : i + 1 - N.driven ≡ (i - N.driven) + 1 = omega arith in
       let node : i + 1 ≡ N.driven + suc (i - N.driven) = omega arith in

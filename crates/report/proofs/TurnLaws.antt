@@ -5,16 +5,17 @@ use native.Mathlib.Nat.{mul-suc}
 use native.Mathlib.Numerals.{add-one}
 use native.Mathlib.Omega.{arith}
 use Rattle.units.specs.Table.{in_turn}
-use Rattle.console.specs.Text.{Adds}
-use Rattle.console.proofs.TextLaws.{adds_none, adds_then, adds_within}
+use Rattle.console.specs.Text.{Puts}
+use Rattle.console.specs.declared.text.Text.{Text}
+use Rattle.console.proofs.TextLaws.{puts_none, puts_then, puts_within}
 
-module _ (text : ℕ → List ℕ) {at : ℕ} {a : List ℕ} where
+module _ (text : ℕ → List ℕ) {a : Text} where
   -- none yet
-  pub turn_none : {m : ℕ} → Adds (in_turn text 0) m at a at a
+  pub turn_none : {m : ℕ} → Puts (in_turn text 0) m a a
   unfolding in_turn
-  turn_none = adds_none
+  turn_none = puts_none
 
   -- one more
-  pub turn_more : (j : ℕ) {m r s : ℕ} {b c : List ℕ} → Adds (in_turn text j) (m * j) at a r b → Adds (text j) m r b s c → Adds (in_turn text (j + 1)) (m * (j + 1)) at a s c
+  pub turn_more : (j : ℕ) {m : ℕ} {b c : Text} → Puts (in_turn text j) (m * j) a b → Puts (text j) m b c → Puts (in_turn text (j + 1)) (m * (j + 1)) a c
   unfolding in_turn
-  turn_more j {m = m} p q = rw (add-one j) (adds_within (omega (arith, mul-suc m j)) (adds_then p q))
+  turn_more j {m = m} p q = rw (add-one j) (puts_within (omega (arith, mul-suc m j)) (puts_then p q))

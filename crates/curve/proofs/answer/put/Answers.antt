@@ -11,10 +11,10 @@ pub returns-in-Ok : goal.returns-in-Ok
 unfolding answer_to
 returns-in-Ok c =
     let p = c.put_curve in
-    (rw (← c.curve.ensures, c.in-Ok.is) p.ensures, omega (arith, p.ensures.short, p.ensures.moved, p.auto.text, c.requires))
+    (rw (← c.curve.ensures, c.in-Ok.is) p.ensures, omega (arith, p.ensures.short, p.ensures.moved, p.auto.buffer, c.requires))
 
 pub returns-in-Err : goal.returns-in-Err
 unfolding answer_to
 returns-in-Err c =
     let p = c.put_refused in
-    (rw (← c.curve.ensures, c.in-Err.is) (adds_within (omega arith) (rw c.from.ensures at p.ensures)), omega (arith, p.ensures.short, p.ensures.moved, p.auto.text, c.requires))
+    (rw (← c.curve.ensures, c.in-Err.is) (adds_within (omega arith) (rw c.from.ensures at p.ensures)), omega (arith, p.ensures.short, p.ensures.moved, p.auto.buffer, c.requires))

@@ -14,4 +14,4 @@ loop-j-preserved c =
     let l = c.loop-j in
     let b = reading c.args.breakpoints l.j in
     let e : to_z w32 (of_z w32 b) ≡ b = search rules in
-    turn_more _ l.j l.invariant (rw e at c.put_stretch-end.ensures)
+    turn_more _ l.j l.invariant (rw e at c.put_stretch.ensures)

@@ -14,4 +14,4 @@ loop-j-preserved c =
     let parts = c.args.parts in
     let j = c.loop-j.j in
     let there : j < parts.element_count = omega (arith, length-take parts.element_count parts.elements) in
-    turn_more _ j c.loop-j.invariant (rw (get_or-take _ parts.elements j _ there, add-one j, sym (element_there parts j there)) at c.put_element-end.ensures)
+    turn_more _ j c.loop-j.invariant (rw (get_or-take _ parts.elements j _ there, add-one j, sym (element_there parts j there)) at c.put_element.ensures)

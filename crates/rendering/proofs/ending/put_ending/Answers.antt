@@ -1,21 +1,21 @@
 use native.Mathlib.Omega.{arith}
-use Rattle.console.proofs.TextLaws.{adds_then, adds_within}
+use borrow.Author.Rules.{rules}
+use Rattle.console.specs.Text.{Puts}
+use Rattle.console.proofs.TextLaws.{puts_then, puts_within}
+use Rattle.rendering.specs.Rendering.{ending}
 use Rattle.rendering.proofs.RenderingLaws.{ending_refused}
 use Rattle.rendering.proofs.ending.put_ending.Goals as goal
-
-pub returns-then-number-eq0 : goal.returns-then-number-eq0
-returns-then-number-eq0 c =
-    let word = c.put_word-at.ensures in
-    let digits = c.put_decimal-end.ensures in
-    let zero = c.if-number-eq0.true in
-    rw zero (adds_within (omega arith) (adds_then word (adds_then digits c.put_word.ensures)))
+use Rattle.rendering.proofs.ending.put_ending.Goals.{then-number-eq0, else-number-eq0}
 
 pub returns : goal.returns
 returns c =
-    let word = c.put_word-at-2.ensures in
-    let number = c.put_decimal-told.ensures in
-    let after = c.put_word-after.ensures in
-    let count = c.put_decimal-end-2.ensures in
     let a = c.args in
-    let refused = c.if-number-eq0.false in
-    ending_refused a.number a.count refused (adds_within (omega arith) (adds_then word (adds_then number (adds_then after (adds_then count c.put_word-2.ensures)))))
+    let count = puts_then c.put_decimal-2.ensures c.put_word-2.ensures in
+    let put : Puts (ending a.number a.count) 56 c.new-text.result c.put_word-2.new.self = elim c.if-number-eq0.branch [
+      | then-number-eq0 w ↦ rw w.if-number-eq0.true (puts_within (omega arith) (puts_then w.put_word.ensures (rw w.text-is at count)))
+      | else-number-eq0 w ↦
+          let after = puts_then w.put_word-else-number-eq0-2.ensures (rw w.text-is at count) in
+          ending_refused a.number a.count w.if-number-eq0.false (puts_within (omega arith) (puts_then w.put_word-else-number-eq0.ensures (puts_then w.put_decimal.ensures after)))
+    ] in
+    let adds = put.adds in
+    search rules

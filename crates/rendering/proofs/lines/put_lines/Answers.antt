@@ -13,7 +13,7 @@ pub loop-j-preserved : goal.loop-j-preserved
 loop-j-preserved c =
     let l = c.loop-j in
     let i = c.signed_at in
-    let p = c.put_line-end in
+    let p = c.put_line in
     let z = i.result in
     let e : to_z w64 (of_z w64 z) ≡ z = search rules in
     let line = rw (e, i.ensures) at p.ensures in

@@ -8,7 +8,7 @@ use lib.ListN.{length, get_or, take, length-take}
 use borrow.Author.Rules.{rules}
 use Rattle.std.proofs.lemmas.List.{get_or-take, get_or_default}
 use Rattle.network.specs.Network.{reading}
-use Rattle.console.proofs.TextLaws.{adds_then, adds_within}
+use Rattle.console.proofs.TextLaws.{puts_then, puts_within}
 use Rattle.report.specs.Curve.{slope_number}
 use Rattle.report.proofs.curve.put_curve.Goals as goal
 
@@ -25,8 +25,10 @@ returns c =
     let longer : length bs ≡ 16 = search rules in
     let few : length (take (m + 1) ss) ≡ m + 1 = omega (arith, length-take (m + 1) ss) in
     let fewer : length (take m bs) ≡ m = omega (arith, length-take m bs) in
-    let slopes = rw (few, add-one) at (c.put_all-b.ensures.text (slope_number ss) (λ j number read there is converts. converts ∙ ap pos (among ss (m + 1) j 0 there is))) in
-    let breakpoints = rw fewer at (c.put_all-e.ensures.text (reading bs) (λ j number read there is converts. converts ∙ among bs m j (pos 0) there is)) in
-    let first = adds_then c.put_word-a.ensures (adds_then slopes c.put_word-c.ensures) in
-    let second = adds_then c.put_word-d.ensures (adds_then breakpoints c.put_word.ensures) in
-    adds_within (omega arith) (adds_then first second)
+    let slopes = rw (few, add-one) at (c.put_all.ensures.text (slope_number ss) (λ j number read there is converts. converts ∙ ap pos (among ss (m + 1) j 0 there is))) in
+    let breakpoints = rw fewer at (c.put_all-2.ensures.text (reading bs) (λ j number read there is converts. converts ∙ among bs m j (pos 0) there is)) in
+    let first = puts_then c.put_word.ensures (puts_then slopes c.put_word-2.ensures) in
+    let second = puts_then c.put_word-3.ensures (puts_then breakpoints c.put_word-4.ensures) in
+    let put = puts_within {n = 4096} (omega arith) (puts_then first second) in
+    let adds = put.adds in
+    search rules

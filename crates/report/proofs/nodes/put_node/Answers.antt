@@ -2,7 +2,7 @@ use native.Mathlib.Omega.{arith}
 use Rattle.network.proofs.Hold.{leak_held}
 use Rattle.network.proofs.Ranges.{held_fits, steepest_fits}
 use Rattle.circuit.specs.Board.{network_on}
-use Rattle.console.proofs.TextLaws.{adds_then}
+use Rattle.console.proofs.TextLaws.{puts_then}
 use Rattle.report.proofs.nodes.put_node.Goals as goal
 
 pub rounded_up-least-requires : goal.rounded_up-least-requires
@@ -16,7 +16,7 @@ pub returns : goal.returns
 returns c =
     let held = c.held-held.ensures in
     let steepest = c.steepest-steepest.ensures in
-    let second = rw held at c.put_column-b.ensures in
-    let third = rw steepest at c.put_column-c.ensures in
+    let second = rw held at c.put_column-2.ensures in
+    let third = rw steepest at c.put_column-3.ensures in
     let fourth = rw (c.rounded_up-least.ensures, held, steepest) at c.put_last.ensures in
-    adds_then c.put_column-a.ensures (adds_then second (adds_then third fourth))
+    puts_then c.put_column.ensures (puts_then second (puts_then third fourth))

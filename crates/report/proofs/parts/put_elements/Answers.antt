@@ -13,4 +13,4 @@ loop-e-preserved c =
     let parts = c.args.parts in
     let j = c.loop-e.e-index in
     let there : j < parts.element_count = omega (arith, length-take parts.element_count parts.elements) in
-    turn_more _ j c.loop-e.invariant (rw (get_or-take _ parts.elements j _ there, sym (element_there parts j there)) at c.put_element-end.ensures)
+    turn_more _ j c.loop-e.invariant (rw (get_or-take _ parts.elements j _ there, sym (element_there parts j there)) at c.put_element.ensures)

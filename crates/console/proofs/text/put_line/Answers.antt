@@ -1,8 +1,0 @@
-use mir.Facts.{to_z-of_z}
-use Rattle.console.specs.Text.{line}
-use Rattle.console.proofs.TextLaws.{adds_then}
-use Rattle.console.proofs.text.put_line.Goals as goal
-
-pub returns : goal.returns
-unfolding line
-returns c = adds_then (rw (to_z-of_z c.ranges.z) at c.put_number-end.ensures) c.put_word.ensures
