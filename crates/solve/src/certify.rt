@@ -12,7 +12,6 @@ ghost use Rattle.solve.specs.Visit.{one_up, Raised, Visiting, VisitedAt, Visited
 
 use crate::point::Point;
 use circuit::Circuit;
-use units::signed;
 use units::voltage::Voltage;
 
 // What came of one node: it was back, it waits still, or it goes back.
@@ -38,7 +37,7 @@ fn one_up(v: i64) -> i64
 {
     let u = Voltage { microvolts: v };
     if u.below_top() {
-        return signed::plus(v, 1);
+        return v + 1;
     }
     v
 }

@@ -13,7 +13,6 @@ ghost use Rattle.solve.specs.Climb.{Further, Topped};
 use crate::point::Point;
 use crate::{certify, settle};
 use circuit::Circuit;
-use units::signed;
 use units::voltage::Voltage;
 
 // So many turns go as far as the lines say.
@@ -28,8 +27,8 @@ fn stride_at(t: u64, v: i64, s: i64, before: i64, after: i64) -> u64
     if s <= v {
         return t;
     }
-    let was = signed::size(before);
-    let left = signed::size(after);
+    let was = before.unsigned_abs();
+    let left = after.unsigned_abs();
     if was <= left {
         return t;
     }
@@ -92,7 +91,7 @@ fn further(v: i64, s: i64, t: u64) -> i64
     if s <= v {
         return s;
     }
-    Voltage::clamped(signed::plus(s, signed::whole(t)))
+    Voltage::clamped(s + t as i64)
 }
 
 // Every free node so.

@@ -9,7 +9,6 @@ ghost use Rattle.solve.specs.Leap.{Reached, Led, Sinkable, LandedAt, Lands};
 
 use crate::point::Point;
 use circuit::Circuit;
-use units::signed;
 use units::voltage::Voltage;
 
 // m times as far again as from b to v.
@@ -17,7 +16,7 @@ fn along(b: i64, v: i64, m: u64) -> i64
     requires { InRange b × InRange v × (m ≤ 2 ^ 26) }
     ensures { result ≡ v -ℤ pos m *ℤ (b -ℤ v) }
 {
-    signed::minus(v, signed::times(signed::whole(m), signed::minus(b, v)))
+    v - m as i64 * (b - v)
 }
 
 // Where a leap takes a node that came from b to v: there, if that is lower and above the bottom.
@@ -82,8 +81,7 @@ fn land_at(
     if !high {
         return false;
     }
-    let down = signed::minus(u, 1);
-    far.put(circuit, stored, i, down);
+    far.put(circuit, stored, i, u - 1);
     true
 }
 

@@ -9,7 +9,6 @@ ghost use Rattle.solve.specs.Search.{Searching, Down};
 
 use crate::point::Point;
 use circuit::Circuit;
-use units::signed;
 use units::voltage::Voltage;
 
 // No sum of slopes at a node reaches this.
@@ -21,9 +20,9 @@ fn more(b: i64, v: i64, before: i64, after: i64) -> u64
     requires { InRange b × InRange v }
     ensures { result ≤ 2 ^ 26 }
 {
-    let way = signed::size(signed::minus(b, v));
-    let had = signed::size(before);
-    let left = signed::size(after);
+    let way = (b - v).unsigned_abs();
+    let had = before.unsigned_abs();
+    let left = after.unsigned_abs();
     if had <= left {
         return 0;
     }
@@ -43,7 +42,7 @@ fn sunk(v: i64, t: u64) -> i64
     requires { InRange v × (t ≤ 2 ^ 26) }
     ensures { InRange result × (result ≤ℤ v) }
 {
-    let u = signed::minus(v, signed::whole(t));
+    let u = v - t as i64;
     let there = Voltage { microvolts: u };
     if there.in_range() {
         return u;

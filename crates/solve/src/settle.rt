@@ -26,7 +26,7 @@ fn lower_by(v: i64, f: i64, s: u64) -> i64
     requires { InRange v × (nat_abs f ≤ net_bound) × (0 < s) × (s < 2 ^ 36) }
     ensures { result ≡ v -ℤ pos (rounded_up (nat_abs f) s) }
 {
-    signed::minus(v, signed::whole(signed::rounded_up(signed::size(f), s)))
+    v - signed::rounded_up(f.unsigned_abs(), s) as i64
 }
 
 // Step: one node lowered by as much as its steepest sum allows, where its net current is above zero, and

@@ -1,27 +1,21 @@
-use mathlib.Core.Path.{◌≡◌, ◌∙◌}
-use Prim.Native.Nat.{◌≤◌}
-use native.Mathlib.Omega.{arith}
-use lib.IntN.{pos, nat_abs}
-use mir.Syntax.{w64}
-use mir.Val.{to_z, of_z}
-use mir.Facts.{to_z-of_z}
-use borrow.Author.Rules.{rules}
+use Rattle.std.proofs.Common.{◌≡◌, pos, nat_abs, ◌∙◌, refl, arith, w64, to_z-of_z}
+use Rattle.std.proofs.lemmas.Int.{to_z_pos}
 use Rattle.units.specs.Integer.{rounded_up}
-use Rattle.solve.specs.Search.{net_bound}
+use Rattle.units.proofs.Sizes.{minus_fits}
 use Rattle.solve.proofs.StepLaws.{rounded_up_small}
 use Rattle.solve.proofs.settle.lower_by.Goals as goal
 
-pub whole-requires : goal.whole-requires
-whole-requires c =
-    let at_size : c.size.result ≡ nat_abs c.args.f = rw (to_z-of_z c.ranges.f) at c.size.ensures in
-    let far : c.rounded_up.result ≡ rounded_up (nat_abs c.args.f) c.args.s = rw at_size at c.rounded_up.ensures in
-    omega (arith, far, rounded_up_small (nat_abs c.args.f) c.args.s c.requires.2, c.requires.1)
+-- how far it goes
+far : (c : goal.After-rounded_up) → c.rounded_up.result ≡ rounded_up (nat_abs c.args.f) c.args.s
+far c = rw (c.unsigned_abs.ensures.value, to_z-of_z c.ranges.f) at c.rounded_up.ensures
 
-pub minus-requires : goal.minus-requires
-minus-requires c =
-    let at_size : c.size.result ≡ nat_abs c.args.f = rw (to_z-of_z c.ranges.f) at c.size.ensures in
-    let far : c.rounded_up.result ≡ rounded_up (nat_abs c.args.f) c.args.s = rw at_size at c.rounded_up.ensures in
-    let far_fits : c.rounded_up.result ≤ net_bound = omega (arith, far, rounded_up_small (nat_abs c.args.f) c.args.s c.requires.2, c.requires.1) in
-    let e : to_z w64 (of_z w64 c.whole.result) ≡ c.whole.result = search rules in
-    let far_whole : to_z w64 (of_z w64 c.whole.result) ≡ pos c.rounded_up.result = e ∙ c.whole.ensures in
-    rw (far_whole, to_z-of_z c.ranges.v) (omega (arith, far_fits, c.requires.0))
+pub overflow_cast-result : goal.overflow_cast-result
+overflow_cast-result c = record { sfits = omega (arith, far c, rounded_up_small (nat_abs c.args.f) c.args.s c.requires.2, c.requires.1) }
+
+pub overflow_sub-result : goal.overflow_sub-result
+overflow_sub-result c =
+    rw (to_z-of_z c.ranges.v, to_z_pos w64 _ (overflow_cast-result c).sfits)
+    (minus_fits c.args.v (pos c.rounded_up.result) (omega (arith, far c, rounded_up_small (nat_abs c.args.f) c.args.s c.requires.2, c.requires.1, c.requires.0)))
+
+pub returns : goal.returns
+returns c = to_z-of_z (overflow_sub-result c) ∙ rw (to_z-of_z c.ranges.v, to_z_pos w64 _ (overflow_cast-result c).sfits, far c) refl
