@@ -7,7 +7,6 @@ use super::ask::Question;
 use super::text::{Image, list, with_sign};
 use std::io;
 use std::io::Stdout;
-use units::signed;
 
 // What a circuit is by itself, behind its name.
 pub fn circuit(out: Stdout, name: &[u8], i: Image) -> io::Result<()> {
@@ -57,8 +56,8 @@ pub fn filled(out: Stdout, i: Image, volts: &[u8], x: i64) -> io::Result<()> {
 
 // A sample with v between nodes 1 and 2.
 fn across(out: Stdout, i: Image, v: i64) -> io::Result<()> {
-    let n = signed::size(v);
-    let negative = signed::less(v, 0);
+    let n = v.unsigned_abs();
+    let negative = v < 0;
     let mut volts = [0i64; 16];
     volts[1] = with_sign(negative, n / 2);
     volts[2] = with_sign(!negative, n - n / 2);

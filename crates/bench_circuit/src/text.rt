@@ -1,8 +1,6 @@
 // Images and lists of numbers from text.
 ghost use Rattle.std.specs.Prelude.{◌≤◌};
 
-use units::signed;
-
 // The first half of the digits, in bytes.
 #[derive(Clone, Copy)]
 pub struct Image {
@@ -79,9 +77,9 @@ struct Partial {
 pub fn with_sign(negative: bool, size: u64) -> i64 {
     if size < 1000000000000000000 {
         if negative {
-            return signed::minus(0, signed::whole(size));
+            return -(size as i64);
         }
-        return signed::whole(size);
+        return size as i64;
     }
     0
 }

@@ -11,7 +11,6 @@ use solve::sample;
 use std::io;
 use std::io::Stdout;
 use units::number::Number;
-use units::signed;
 use units::voltage::Voltage;
 
 // The drive of sample k: two sines of 2 V together, 440 and 1,000 Hz.
@@ -33,14 +32,14 @@ fn proposal(which: u64, v: i64) -> i64 {
         2 => Voltage::LIMIT,
         3 => -Voltage::LIMIT,
         4 => {
-            if signed::size(v) < 1000000000 {
-                return signed::plus(v, 1);
+            if v.unsigned_abs() < 1000000000 {
+                return v + 1;
             }
             1
         }
         5 => {
-            if signed::size(v) < 1000000000 {
-                return signed::minus(v, 1);
+            if v.unsigned_abs() < 1000000000 {
+                return v - 1;
             }
             0
         }
@@ -98,7 +97,7 @@ fn advanced(circuit: &Circuit, stored: &mut [i64; 32], d: i64, last: &mut [i64; 
 
 // One more voltage in a checksum.
 fn mixed(sum: u64, v: i64) -> u64 {
-    ((sum % 1000000007) * 31 + signed::size(v) % 1000000007) % 1000000007
+    ((sum % 1000000007) * 31 + v.unsigned_abs() % 1000000007) % 1000000007
 }
 
 // These voltages, or stored currents.

@@ -8,7 +8,7 @@ ghost use Rattle.units.specs.Voltage.{voltage_limit};
 use std::io;
 use std::io::Stdout;
 use units::voltage::Voltage;
-use units::{bytes, ratio, signed};
+use units::{bytes, ratio};
 
 // The nearest voltage to x, behind the way that x is written.
 fn nearest(out: Stdout, written: &str, x: f64) -> io::Result<()> {
@@ -46,8 +46,8 @@ fn both_back(v: u64) -> u64
     requires { v ≤ voltage_limit }
     ensures { result ≤ 2 }
 {
-    let z = signed::whole(v);
-    comes_back(z) + comes_back(signed::minus(0, z))
+    let z = v as i64;
+    comes_back(z) + comes_back(-z)
 }
 
 // How many of the voltages 0, 16381, 32762, .. within the limit come back with either sign.
