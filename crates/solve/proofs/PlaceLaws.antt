@@ -9,11 +9,14 @@ use lib.Dec.{eqb}
 use lib.ListN.{length, set, length-set}
 use lib.Seq.{get_or-set_same, get_or-set_other}
 use borrow.Author.Tests.{eqb-true, eqb-false}
-use Rattle.units.specs.Voltage.{InRange}
+use mir.Syntax.{w64}
+use mir.Val.{to_z, of_z}
+use mir.Facts.{to_z-of_z}
 use Rattle.units.proofs.Integers.{scale_one}
+use Rattle.units.proofs.Sizes.{fits_signed}
 use Rattle.network.specs.Network.{reading}
 use Rattle.network.specs.Sample.{Legal}
-use Rattle.circuit.specs.Board.{nodes_on, driven_on, network_on, Ranged}
+use Rattle.circuit.specs.Board.{nodes_on, driven_on, network_on}
 use Rattle.solve.specs.Answer.{drives_at}
 use Rattle.solve.specs.Search.{Searching, Changed}
 
@@ -24,9 +27,6 @@ set_cases P l i j v short here there = go (eqb j i) refl
     go : (b : Bool) → eqb j i ≡ b → P j (reading (set l i v) j)
     go true e = subst (λ (k : ℕ). P k (reading (set l i v) k)) (sym (eqb-true j i e)) (subst (P i) (sym (get_or-set_same l i v (pos 0) short)) here)
     go false e = subst (P j) (sym (get_or-set_other l i j v (pos 0) (eqb-false j i e))) (there (eqb-false j i e))
-
-pub ranged_set : (board : List ℕ) (l : List ℤ) (i : ℕ) (v : ℤ) → i < length l → Ranged board l → InRange v → Ranged board (set l i v)
-ranged_set board l i v short ranged inside j there = set_cases (λ (k : ℕ) (w : ℤ). InRange w) l i j v short inside (λ n. ranged j there)
 
 module _ {P : ℕ → ℤ → Type 0} {board : List ℕ} {before : List ℤ} where
   module _ {after : List ℤ} {i : ℕ} (h : Changed P board before after i) where
@@ -45,6 +45,10 @@ module _ {board : List ℕ} {stretches stored a nets : List ℤ} (s : Searching 
   -- a node has a place in the array
   pub place_of : {i : ℕ} → i ≤ nodes_on board → i < 16
   place_of there = omega (arith, s.evaluable.ready.laid.limits.few_nodes)
+
+  -- the code's voltage of a node is the array's
+  pub node_is : {i : ℕ} → i ≤ nodes_on board → to_z w64 (of_z w64 (reading a i)) ≡ reading a i
+  node_is there = to_z-of_z (fits_signed _ (omega (arith, s.evaluable.ranged _ there)))
 
   pub short_of : {i : ℕ} → i ≤ nodes_on board → i < length a
   short_of there = omega (arith, place_of there, s.long)

@@ -8,10 +8,13 @@ use native.Mathlib.Omega.{arith}
 use lib.IntN.{ℤ, pos, nat_abs, ◌-ℤ◌}
 use lib.ListN.{length, set}
 use lib.Signed.{◌≤ℤ◌, ◌<ℤ◌}
+use mir.Syntax.{w64}
+use mir.Val.{to_z, of_z}
+use mir.Facts.{to_z-of_z}
 use Rattle.units.specs.Integer.{rounded_up}
 use Rattle.units.specs.Voltage.{voltage_limit, InRange, bottom}
 use Rattle.units.proofs.Integers.{signs, sub_law, neg_law, pos_law, abs_law, decide, decide_n}
-use Rattle.units.proofs.Sizes.{rounded_up_law, abs_within}
+use Rattle.units.proofs.Sizes.{rounded_up_law, abs_within, fits_signed}
 use Rattle.network.specs.Network.{Network, Free, reading, net, steepest, branch_limit, current_bound}
 use Rattle.network.specs.Sample.{Under}
 use Rattle.network.proofs.Ranges.{partial_sum_small, steepest_fits}
@@ -49,6 +52,10 @@ module _ {board : List ℕ} {stretches stored l nets : List ℤ} (search : Searc
       let limits = given.ready.laid.limits in
       let m : count_on board * current_bound ≤ branch_limit * current_bound = mul-le-mul limits.few_branches (le_refl current_bound) in
       omega (arith, partial_sum_small N limits (reading stored) (reading l) given.kept given.ranged i (count_on board) (λ (j : ℕ). j) free.1 (λ j l. l))
+
+  -- the code's net current of the node is its own
+  pub net_is : to_z w64 (of_z w64 (reading nets i)) ≡ net 1 (network_on board stretches) (reading stored) (reading l) i
+  net_is = rw (search.netted.each i free.1) (to_z-of_z (fits_signed (net 1 N (reading stored) (reading l) i) (omega (arith, net_small))))
 
   pub steep_some : 0 < steepest_on board i
   steep_some = rw (given.ready.steepest_sums i free) (omega (arith, leak_steepest N i, given.ready.laid.limits.leaks))

@@ -9,9 +9,8 @@ use native.Mathlib.Nat.{le_refl}
 use lib.IntN.{ℤ, pos, ◌+ℤ◌, ◌-ℤ◌}
 use lib.ListN.{length, set}
 use lib.Signed.{◌≤ℤ◌, ◌<ℤ◌}
-use Rattle.units.specs.Voltage.{voltage_limit, InRange, below_top}
+use Rattle.units.specs.Voltage.{voltage_limit, below_top}
 use Rattle.units.proofs.Integers.{signs, add_law, sub_law, neg_law, pos_law, abs_law, decide_n, lt_z_true, lt_z_false}
-use Rattle.units.proofs.Sizes.{abs_within}
 use Rattle.network.specs.Network.{Network, Wired, Free, reading, net}
 use Rattle.network.specs.Sample.{Legal, Low, Under, Answer}
 use Rattle.network.specs.Search.{lowered, raised, Visit, Through, height}
@@ -35,13 +34,6 @@ one_up_law v = go (below_top v) refl
     go : (b : Bool) → below_top v ≡ b → ((cond b (v +ℤ pos 1) v ≡ v +ℤ pos 1) × (v <ℤ pos voltage_limit)) ⊎ ((cond b (v +ℤ pos 1) v ≡ v) × (pos voltage_limit ≤ℤ v))
     go true e = inl (refl, lt_z_true _ _ e)
     go false e = inr (refl, lt_z_false _ _ e)
-
-one_up_range : (v : ℤ) → InRange v → InRange (one_up v)
-one_up_range v inside = ⊎_elim
-    (λ (h : (one_up v ≡ v +ℤ pos 1) × (v <ℤ pos voltage_limit)). rw h.0 (abs_within (v +ℤ pos 1) voltage_limit
-    (omega (signs, h.1, add_law v (pos 1), pos_law 1, pos_law voltage_limit))
-    (omega (signs, add_law v (pos 1), pos_law 1, abs_law v))))
-    (λ (h : (one_up v ≡ v) × (pos voltage_limit ≤ℤ v)). rw h.0 inside) (one_up_law v)
 
 module _ {board : List ℕ} {volts s : List ℤ} where
   -- it is the definition's
