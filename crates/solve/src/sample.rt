@@ -76,13 +76,11 @@ fn voiced(
     }
 }
 
-// The nodes of an accepted sample taken over. That there are 16 places a reference does not tell, and a
-// copy does; it is not used, and the compiler leaves it out.
+// The nodes of an accepted sample taken over.
 fn hand_over(circuit: &Circuit, found: &[i64; 16], volts: &mut [i64; 16])
     requires { nodes_on circuit.now.board ≤ 15 }
     ensures { Taken found.now 0 (nodes_on circuit.now.board + 1) volts.old volts.new }
 {
-    places::copied(volts);
     places::take(found, 0, circuit.nodes() + 1, volts);
 }
 
