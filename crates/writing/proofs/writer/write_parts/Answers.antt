@@ -1,11 +1,9 @@
-use mathlib.Core.Path.{◌≡◌, refl, sym, ◌∙◌, ap}
+use mathlib.Core.Path.{sym, ◌∙◌, ap}
 use Prim.Native.Nat.{◌≤◌}
 use native.Mathlib.Omega.{arith}
 use lib.ListN.{length}
 use Rattle.units.specs.Number.{number_of}
-use Rattle.units.specs.declared.number.Number.TheVariants.{Done}
 use Rattle.units.proofs.Numbers.{done_only}
-use Rattle.image.specs.Judged.{judged}
 use Rattle.image.proofs.Judging.{judged_sound}
 use Rattle.writing.specs.Image.{image_of}
 use Rattle.writing.proofs.Answers.{writes-broken, writes_short, writes-image}
