@@ -41,12 +41,14 @@ pub fn to(image: &[u8]) -> Result<Parts, Reason>
 
 // The curves that are written after the beginning.
 pub fn curves(answer: &Result<Parts, Reason>) -> &[Curve]
-    requires { Ready answer.now }
     ensures curves { result.now ≡ curves_of answer.now }
-    ensures count { length result.now ≡ curves_after answer.now }
+    ensures count { Ready answer.now → length result.now ≡ curves_after answer.now }
 {
     match answer {
-        Ok(parts) => &parts.curves[..parts.curve_count as usize],
+        Ok(parts) => parts
+            .curves
+            .get(..parts.curve_count as usize)
+            .unwrap_or(&parts.curves),
         Err(_) => &[],
     }
 }
