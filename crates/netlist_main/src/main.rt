@@ -134,8 +134,8 @@ fn report_on(
 ) -> io::Result<()> {
     // longer than any text that is read
     let mut bytes = outside::large_buffer();
-    let n = outside::read(rt, name, &mut bytes);
-    report_text(rt, err, version, &bytes[..n], i)
+    let text = outside::read_into(rt, name, &mut bytes);
+    report_text(rt, err, version, text, i)
 }
 
 fn main(rt: HostRuntime) -> io::Result<()> {

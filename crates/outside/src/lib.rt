@@ -82,14 +82,15 @@ pub fn fill<R: Read>(input: &mut R, buffer: &mut [u8]) -> usize
     done
 }
 
-// The same of the file of this name, from its beginning.
-pub fn read(files: &impl Files, name: &[u8], buffer: &mut [u8]) -> usize
-    ensures { result ≤ length buffer.new }
+// The same of the file of this name, from its beginning: its bytes, in the buffer that is lent for them.
+pub fn read_into<'a>(files: &impl Files, name: &[u8], buffer: &'a mut [u8]) -> &'a [u8]
+    ensures { length result.now ≤ length buffer.old }
 {
-    match open(files, name) {
+    let n = match open(files, name) {
         Some(mut file) => fill(&mut file, buffer),
         None => 0,
-    }
+    };
+    &buffer[..n]
 }
 
 #[cfg(test)]
@@ -194,10 +195,20 @@ mod tests {
     #[test]
     fn reads_files(rt: HostRuntime) {
         let mut bytes = buffer();
-        assert_eq!(rt; read(&rt, b"/dev/zero", &mut bytes), 4096);
-        assert_eq!(rt; read(&rt, b"/dev/null", &mut bytes), 0);
-        assert_eq!(rt; read(&rt, b"/nowhere/at all", &mut bytes), 0);
-        assert_eq!(rt; read(&rt, b"", &mut bytes), 0);
-        assert_eq!(rt; read(&rt, b"/dev/zero\xff", &mut bytes), 0);
+        assert_eq!(rt; read_into(&rt, b"/dev/zero", &mut bytes).len(), 4096);
+        assert_eq!(rt; read_into(&rt, b"/dev/null", &mut bytes).len(), 0);
+        assert_eq!(rt; read_into(&rt, b"/nowhere/at all", &mut bytes).len(), 0);
+        assert_eq!(rt; read_into(&rt, b"", &mut bytes).len(), 0);
+        assert_eq!(rt; read_into(&rt, b"/dev/zero\xff", &mut bytes).len(), 0);
+    }
+
+    #[test]
+    fn hands_back_what_it_read(rt: HostRuntime) {
+        let mut bytes = *b"abcd";
+        assert_eq!(rt; read_into(&rt, b"/dev/null", &mut bytes), b"".as_slice());
+        assert_eq!(rt;
+            read_into(&rt, b"/dev/zero", &mut bytes),
+            b"\0\0\0\0".as_slice()
+        );
     }
 }

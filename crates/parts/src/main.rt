@@ -33,8 +33,7 @@ fn write_curves(out: &impl Print, answer: &Result<Parts, Reason>) -> io::Result<
 fn report_on(rt: &(impl Files + Print), name: &[u8]) -> io::Result<()> {
     // longer than any image that is accepted
     let mut image = outside::buffer();
-    let n = outside::read(rt, name, &mut image);
-    let answer = answer::to(&image[..n]);
+    let answer = answer::to(outside::read_into(rt, name, &mut image));
     let mut text = outside::buffer();
     let end = beginning::put(&mut text, &answer);
     rt.write_all(&text[..end])?;

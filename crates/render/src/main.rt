@@ -62,10 +62,10 @@ fn blocks(out: &impl Print, image: &[u8], drives: &mut impl Read) -> io::Result<
 fn render(rt: &(impl Files + Print), image: &[u8], drives: &[u8]) -> io::Result<()> {
     // longer than any image that is accepted
     let mut bytes = outside::buffer();
-    let n = outside::read(rt, image, &mut bytes);
+    let image = outside::read_into(rt, image, &mut bytes);
     let finish = match outside::open(rt, drives) {
-        Some(mut file) => blocks(rt, &bytes[..n], &mut file)?,
-        None => blocks(rt, &bytes[..n], &mut io::empty())?,
+        Some(mut file) => blocks(rt, image, &mut file)?,
+        None => blocks(rt, image, &mut io::empty())?,
     };
     let mut text = [0u8; 56];
     let end = rendering::put_ending(&mut text, u64::from(finish.number), finish.count);
