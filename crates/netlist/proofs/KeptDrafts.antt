@@ -105,9 +105,28 @@ pub record Small (parts : Parts) : Type 0 where
   pub elements : parts.element_count ≤ most_byte
   pub curves : parts.curve_count ≤ most_byte
 
+-- each number of theirs is kept as it is
+pub record FieldsKept (parts : Parts) : Type 0 where
+  pub nodes : byte parts.nodes ≡ parts.nodes
+  pub driven : byte parts.driven ≡ parts.driven
+  pub output : byte parts.output ≡ parts.output
+  pub rate : word parts.rate ≡ parts.rate
+  pub element_count : byte parts.element_count ≡ parts.element_count
+  pub curve_count : byte parts.curve_count ≡ parts.curve_count
+
+pub fields_kept : (parts : Parts) → Small parts → FieldsKept parts
+fields_kept parts s = record {
+  nodes = fits _ most_byte s.nodes;
+  driven = fits _ most_byte s.driven;
+  output = fits _ most_byte s.output;
+  rate = fits _ most_word s.rate;
+  element_count = fits _ most_byte s.elements;
+  curve_count = fits _ most_byte s.curves;
+}
+
 pub small_kept : (parts : Parts) → Small parts → kept_header parts ≡ parts
 unfolding kept_header
-small_kept parts s = rw (fits parts.nodes most_byte s.nodes, fits parts.driven most_byte s.driven, fits parts.output most_byte s.output, fits parts.rate most_word s.rate, fits parts.element_count most_byte s.elements, fits parts.curve_count most_byte s.curves)
+small_kept parts s = let k = fields_kept parts s in rw (k.nodes, k.driven, k.output, k.rate, k.element_count, k.curve_count)
 
 -- ---- drafts
 

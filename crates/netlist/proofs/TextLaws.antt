@@ -1,15 +1,22 @@
 -- A text that is read line by line: what the lines so far say of the whole. Assumes nothing.
+use mathlib.Core.Bool.{cond}
 use mathlib.Core.Path.{◌≡◌, refl, sym, ◌∙◌, ap}
 use Rattle.std.proofs.Common.{Some, None, Err}
-use mathlib.Core.List.{List, [], ◌∷◌}
+use mathlib.Core.List.{List, [], ◌∷◌, ◌++◌}
 use Prim.Native.Nat.{ℕ, suc, ◌+◌, ◌≤◌, ◌<◌}
-use native.Mathlib.Numerals.{add-one}
+use lib.Dec.{eqb}
+use borrow.Author.Tests.{ne_eqb, eq-eqb}
 use native.Mathlib.Omega.{arith}
-use lib.ListN.{length, drop, length-drop, drop_of_length-le}
-use lib.Seq.{drop-drop, length-take-le}
+use Rattle.std.proofs.Common.{min, take, drop, ⊎_elim}
+use Rattle.std.proofs.lemmas.Bool.{cases_lt}
+use Rattle.std.proofs.lemmas.List.{length-append, take-append-le, nil_from_length}
+use Rattle.std.proofs.lemmas.List.Folds.{prefix_len-append}
+use Rattle.std.proofs.Math.Seq.{drop-append_seam}
+use Rattle.std.specs.List.{IsFirstMatchOrLen}
+use lib.ListN.{length, drop_of_length-le}
 use Rattle.console.specs.Words.{belongs, leading, first, lines}
 use Rattle.console.specs.declared.words.Run.TheVariants as run
-use Rattle.std.proofs.lemmas.List.Sums.{prefix_len-le-length}
+use Rattle.std.proofs.lemmas.List.Sums.{prefix_len-le-length, position_or_len_is}
 use Rattle.console.proofs.WordLaws.{lines_first}
 use Rattle.netlist.specs.Draft.{blank_draft, fault_of, with_line}
 use Rattle.netlist.specs.Kept.{header_kept, kept_draft, KeptOf, Right}
@@ -61,70 +68,100 @@ module _ (here : List ℕ) (others : List (List ℕ)) (n : ℕ) (d : Draft) (x :
   pub faultless : fault_of (kept_draft d) x ≡ None → KeptOf (SaysLine here) x
   faultless e = says x (λ g. let z : ◌≡◌ {A = ℕ} 0 1 = cc in omega arith) right
 
--- ---- lines from a place on
+-- ---- a text cut after its first line feed
 
--- the line that begins there
-abbrev pub line_at : List ℕ → ℕ → List ℕ
-line_at text at = first run.Line (drop at text)
+-- the piece up to the first line feed and with it, or the whole of a text that has none, and what comes after it
+module _ (text piece after : List ℕ) (i : ℕ) (joined : text ≡ piece ++ after) (long : length piece ≡ min (i + 1) (length text)) (there : IsFirstMatchOrLen (λ b. eqb b 10) text i) where
+  lengths : length text ≡ length piece + length after
+  lengths = ap length joined ∙ length-append piece after
 
-pub line_within : (text : List ℕ) (at : ℕ) → length (line_at text at) ≤ length (drop at text)
-line_within text at = omega (arith, prefix_len-le-length (belongs run.Line) (drop at text), length-take-le (leading (belongs run.Line) (drop at text)) (drop at text) (prefix_len-le-length (belongs run.Line) (drop at text)))
+  -- where the first line ends, and the piece's
+  ends : leading (belongs run.Line) text ≡ min i (length text)
+  ends =
+      position_or_len_is (λ b. eqb b 10) text (min i (length text)) 0 (omega arith) (λ k l. there.0 k 0 (omega arith) (omega arith))
+      (λ l. let same : min i (length text) ≡ i = omega arith in rw same (there.1 (omega arith) 0))
 
-lines_none : (text : List ℕ) (at : ℕ) → length text ≤ at → lines (drop at text) ≡ []
+  ends_so : leading (belongs run.Line) piece ≡ min i (length text)
+  ends_so =
+      let n = leading (belongs run.Line) piece in
+      let both = sym ends ∙ ap (leading (belongs run.Line)) joined ∙ prefix_len-append (belongs run.Line) piece after in
+      ⊎_elim
+      (λ (l : n < length piece). sym (both ∙ ap (λ t. cond t (length piece + leading (belongs run.Line) after) n) (ne_eqb n (length piece) (λ e. omega (arith, e)))))
+      (λ (l : length piece ≤ n).
+      let whole : n ≡ length piece = omega (arith, l, prefix_len-le-length (belongs run.Line) piece) in
+      let far = both ∙ ap (λ t. cond t (length piece + leading (belongs run.Line) after) n) (eq-eqb n (length piece) whole) in
+      omega (arith, whole, far, long, lengths))
+      (cases_lt n (length piece))
+
+  pub same_line : first run.Line piece ≡ first run.Line text
+  same_line =
+      ap (λ n. take n piece) (ends_so ∙ sym ends)
+      ∙ sym (take-append-le (leading (belongs run.Line) text) piece after (omega (arith, ends, long)))
+      ∙ ap (take (leading (belongs run.Line) text)) (sym joined)
+
+  rest_after : drop (suc (leading (belongs run.Line) text)) text ≡ after
+  rest_after =
+      ⊎_elim
+      (λ (l : i < length text).
+      let at : suc (leading (belongs run.Line) text) ≡ length piece = omega (arith, ends, long, l) in
+      ap (λ n. drop n text) at ∙ ap (drop (length piece)) joined ∙ drop-append_seam piece after)
+      (λ (l : length text ≤ i).
+      drop_of_length-le text {i = suc (leading (belongs run.Line) text)} (omega (arith, ends, l))
+      ∙ sym (nil_from_length after (omega (arith, long, lengths, l))))
+      (cases_lt i (length text))
+
+  pub piece_first : (length text ≡ 0 → ⊥) → lines text ≡ first run.Line piece ∷ lines after
+  piece_first h = lines_first text h ∙ rw (rest_after, same_line)
+
+  pub shorter : 0 < length text → length after < length text
+  shorter h = omega (arith, lengths, long)
+
+lines_none : (text : List ℕ) → length text ≡ 0 → lines text ≡ []
 unfolding lines
-lines_none text at h = rw (drop_of_length-le text {i = at} h)
-
-lines_here : (text : List ℕ) (at : ℕ) → at < length text → lines (drop at text) ≡ line_at text at ∷ lines (drop (at + (length (line_at text at) + 1)) text)
-lines_here text at h =
-    let long = length-take-le (leading (belongs run.Line) (drop at text)) (drop at text) (prefix_len-le-length (belongs run.Line) (drop at text)) in
-    lines_first (drop at text) (λ e. omega (arith, e, length-drop at text))
-    ∙ rw (drop-drop (suc (leading (belongs run.Line) (drop at text))) at text, long, add-one)
+lines_none text h = rw (nil_from_length text h)
 
 -- ---- how far the reading has come
 
--- line n begins at a place, after lines that made a draft, of which one is kept: whatever is answered from there on is answered for the text
-pub record Reached (text : List ℕ) (n : ℕ) (draft : Draft) (at : ℕ) : Type 0 where
-  pub few : n ≤ at + 1
-  pub near : at ≤ length text + 1
+-- line n is the first of those left, after lines that made a draft, of which one is kept: whatever is answered from there on is answered for the text
+pub record Reached (text : List ℕ) (n : ℕ) (draft : Draft) (left : List ℕ) : Type 0 where
+  pub few : n + length left ≤ length text + 1
   pub whole : Draft
   pub tidy : Tidy whole.parts
   pub kept : draft ≡ kept_draft whole
-  pub onward : {a : Answer} → Answered (lines (drop at text)) n whole a → Answered (lines text) 1 blank_draft a
+  pub onward : {a : Answer} → Answered (lines left) n whole a → Answered (lines text) 1 blank_draft a
 
-pub reached_first : (text : List ℕ) → Reached text 1 blank_draft 0
+pub reached_first : (text : List ℕ) → Reached text 1 blank_draft text
 reached_first text = record {
   few = omega arith;
-  near = omega arith;
   whole = blank_draft;
   tidy = tidy_blank;
   kept = sym blank_kept;
   onward = λ rest. rest;
 }
 
-module _ (text : List ℕ) (n : ℕ) (draft : Draft) (at : ℕ) (reached : Reached text n draft at) where
-  pub reached_last : length text ≤ at → Answered (lines text) 1 blank_draft (at_end n draft)
-  reached_last h = rw (reached.kept, end_kept n reached.whole reached.tidy) (reached.onward (rw (lines_none text at h) ended))
+module _ (text : List ℕ) (n : ℕ) (draft : Draft) (left : List ℕ) (reached : Reached text n draft left) where
+  pub reached_last : length left ≡ 0 → Answered (lines text) 1 blank_draft (at_end n draft)
+  reached_last h = rw (reached.kept, end_kept n reached.whole reached.tidy) (reached.onward (rw (lines_none left h) ended))
 
-  module _ (there : at < length text) (x : Line) (right : Right (SaysLine (line_at text at)) x) where
+  module _ (here : List ℕ) (after : List ℕ) (cut : lines left ≡ here ∷ lines after) (x : Line) (right : Right (SaysLine here) x) where
     reached_grammar : fault_of draft x ≡ Some fault.Grammar → Answered (lines text) 1 blank_draft (Err (Grammar n))
-    reached_grammar e = reached.onward (rw (lines_here text at there) (faulty_grammar (line_at text at) _ n reached.whole x right (rw reached.kept at e)))
+    reached_grammar e = reached.onward (rw cut (faulty_grammar here _ n reached.whole x right (rw reached.kept at e)))
 
     reached_value : fault_of draft x ≡ Some fault.Value → Answered (lines text) 1 blank_draft (Err (Value n))
-    reached_value e = reached.onward (rw (lines_here text at there) (faulty_value (line_at text at) _ n reached.whole x right (rw reached.kept at e)))
+    reached_value e = reached.onward (rw cut (faulty_value here _ n reached.whole x right (rw reached.kept at e)))
 
     pub reached_fault : (f : Fault) → fault_of draft x ≡ Some f → Answered (lines text) 1 blank_draft (Err (refusal_of f n))
     reached_fault fault.Grammar = reached_grammar
     reached_fault fault.Value = reached_value
 
-    pub reached_more : fault_of draft x ≡ None → Reached text (n + 1) (header_kept (with_line draft x)) (at + (length (line_at text at) + 1))
-    reached_more e =
+    pub reached_more : length after < length left → fault_of draft x ≡ None → Reached text (n + 1) (header_kept (with_line draft x)) after
+    reached_more shorter e =
         let f = rw reached.kept at e in
-        let k = faultless (line_at text at) [] n reached.whole x right f in
+        let k = faultless here [] n reached.whole x right f in
         record {
-          few = omega (arith, reached.few);
-          near = omega (arith, line_within text at, length-drop at text);
+          few = omega (arith, reached.few, shorter);
           whole = with_line reached.whole k.whole;
-          tidy = tidy_line reached.whole reached.tidy k.whole (says_tidy (first run.Said (line_at text at)) k.whole k.meant);
+          tidy = tidy_line reached.whole reached.tidy k.whole (says_tidy (first run.Said here) k.whole k.meant);
           kept = said_kept reached.whole draft x k.whole reached.tidy reached.kept k.kept;
-          onward = λ rest. reached.onward (rw (lines_here text at there) (passed k.whole k.meant (sym (same_fault (line_at text at) [] n reached.whole x right k) ∙ f) rest));
+          onward = λ rest. reached.onward (rw cut (passed k.whole k.meant (sym (same_fault here [] n reached.whole x right k) ∙ f) rest));
         }

@@ -81,16 +81,13 @@ pub fn read(text: &[u8]) -> Result<Parts, Refusal>
     }
     let mut draft = draft::blank();
     let mut n: usize = 1;
-    let mut at: usize = 0;
-    while at < text.len() {
-        let here = words::first(Run::Line, &text[at..]);
-        let line = line::read(here);
+    for piece in text.split_inclusive(|b| *b == b'\n') {
+        let line = line::read(words::first(Run::Line, piece));
         match draft::fault_in(draft, line) {
             Some(fault) => return Err(Refusal::of(fault, n)),
             None => draft = draft::with_line(draft, line),
         }
         n += 1;
-        at += here.len() + 1;
     }
     at_end(n, draft)
 }

@@ -1,29 +1,38 @@
-use mathlib.Core.Path.{◌≡◌, sym}
-use lib.ListN.{length}
-use Rattle.console.proofs.WordLaws.{from_there}
-use Rattle.netlist.specs.Kept.{Right}
-use Rattle.netlist.specs.Text.{SaysLine}
+use Rattle.std.proofs.Common.{rules, tests, arith, eqb}
+use Rattle.std.proofs.lemmas.List.Sorted.{answers_always}
+use mathlib.Core.Path.{◌≡◌, sym, ap, ◌∙◌}
+use Rattle.std.specs.Slice.Iter.{split_inclusive_rest}
 use Rattle.netlist.specs.Answer.{long, read}
-use Rattle.netlist.proofs.TextLaws.{line_at, reached_first, reached_last, reached_fault, reached_more}
+use Rattle.netlist.proofs.TextLaws.{piece_first, shorter, reached_first, reached_last, reached_fault, reached_more}
 use Rattle.netlist.proofs.reader.read.Goals as goal
 
 pub returns-then-text-gt-LONGEST : goal.returns-then-text-gt-LONGEST
 returns-then-text-gt-LONGEST c = long c.if-text-gt-LONGEST.true
 
-pub loop-at-init : goal.loop-at-init
-loop-at-init c = (c.if-text-gt-LONGEST.false, rw c.blank-draft.ensures (reached_first c.args.text.now))
+pub loop-piece-init : goal.loop-piece-init
+loop-piece-init c =
+    let whole = ap split_inclusive_rest c.into_iter-piece-iterator.ensures.into_iter_gives ∙ c.split_inclusive-piece-items.ensures.rest in
+    (c.if-text-gt-LONGEST.false, rw (whole, c.blank-draft.ensures) (reached_first c.args.text.now))
 
-pub returns-in-Some : goal.returns-in-Some
-returns-in-Some c =
-    let told : Right (SaysLine (line_at c.args.text.now c.loop-at.at)) c.read-line.result = rw (c.first-here.ensures, from_there c.loop-at.at c.args.text.now) at c.read-line.ensures in
-    rw c.of.ensures (read c.loop-at.invariant.0 (reached_fault _ _ _ _ c.loop-at.invariant.1 c.loop-at-test.true c.read-line.result told c.in-Some.fault (sym c.in-Some.ensures)))
+pub returns-in-Some-fault_in : goal.returns-in-Some-fault_in
+returns-in-Some-fault_in c =
+    let (short, reached) = c.loop-piece.invariant in
+    let (joined, (i, size, places), some) = c.in-Some.ensures.steps in
+    let there = (places (λ b. eqb b 10) (answers_always _ _ _ (λ f a r g h. search (rules, tests)))).1 in
+    let cut = piece_first _ _ _ i joined size there (λ e. omega (arith, some, e)) in
+    let told = rw c.first.ensures at c.read-line.ensures in
+    rw c.of.ensures (read short (reached_fault _ _ _ _ reached _ _ cut c.read-line.result told c.in-Some-fault_in.fault (sym c.in-Some-fault_in.ensures)))
 
-pub loop-at-preserved : goal.loop-at-preserved
-loop-at-preserved c =
-    let told : Right (SaysLine (line_at c.args.text.now c.loop-at.at)) c.read-line.result = rw (c.first-here.ensures, from_there c.loop-at.at c.args.text.now) at c.read-line.ensures in
-    let line-long : length c.first-here.result.now ≡ length (line_at c.args.text.now c.loop-at.at) = rw (c.first-here.ensures, from_there c.loop-at.at c.args.text.now) in
-    let l = c.loop-at in
-    (l.invariant.0, rw (line-long, c.with_line-draft.ensures) (reached_more _ _ _ _ l.invariant.1 c.loop-at-test.true c.read-line.result told (sym c.in-None.ensures)))
+pub loop-piece-preserved : goal.loop-piece-preserved
+loop-piece-preserved c =
+    let (short, reached) = c.loop-piece.invariant in
+    let (joined, (i, size, places), some) = c.in-Some.ensures.steps in
+    let there = (places (λ b. eqb b 10) (answers_always _ _ _ (λ f a r g h. search (rules, tests)))).1 in
+    let cut = piece_first _ _ _ i joined size there (λ e. omega (arith, some, e)) in
+    let told = rw c.first.ensures at c.read-line.ensures in
+    (short, rw c.with_line-draft.ensures (reached_more _ _ _ _ reached _ _ cut c.read-line.result told (shorter _ _ _ i joined size there some) (sym c.in-None-fault_in.ensures)))
 
 pub returns : goal.returns
-returns c = rw c.at_end.ensures (read c.loop-at.invariant.0 (reached_last _ _ _ _ c.loop-at.invariant.1 c.loop-at-test.false))
+returns c =
+    let (short, reached) = c.loop-piece.invariant in
+    rw c.at_end.ensures (read short (reached_last _ _ _ _ reached c.in-None.ensures.steps.0))
