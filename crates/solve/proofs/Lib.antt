@@ -3,6 +3,7 @@ pub mod ClimbLaws
 pub mod LeapLaws
 pub mod PlaceLaws
 pub mod PlungeLaws
+pub mod RangeLaws
 pub mod SampleLaws
 pub mod StepLaws
 pub mod SweepLaws

@@ -1,14 +1,16 @@
 -- One sample: that each of its ends is the outcome that network defines, and the only one. Assumes nothing.
 use mathlib.Core.Path.{◌≡◌, refl, sym, ◌∙◌, ap, subst}
-use mathlib.Core.Bool.{true, false}
+use mathlib.Core.Bool.{Bool, true, false}
 use mathlib.Core.List.{List}
 use mathlib.Core.Logic.{inl, inr, ⊎_elim}
 use Prim.Native.Nat.{ℕ, zero, suc, ◌+◌, ◌≤◌, ◌<◌}
 use native.Mathlib.Omega.{arith}
-use lib.IntN.{ℤ, pos}
+use lib.IntN.{ℤ, pos, nat_abs}
+use lib.Signed.{◌≤ℤ◌, ◌<ℤ◌}
+use Rattle.std.specs.Bool.{MatchBool}
 use lib.Seq.{ext_get_or}
 use Rattle.units.specs.Number.{number_of}
-use Rattle.units.specs.Voltage.{voltage_limit}
+use Rattle.units.specs.Voltage.{voltage_limit, drive_limit, InDrive}
 use Rattle.units.specs.declared.number.Number.{Number}
 use Rattle.units.specs.declared.number.Number.TheVariants.{Done, Drive, Rail, Stored}
 use Rattle.units.proofs.Integers.{signs, pos_law, abs_law, decide_n}
@@ -17,11 +19,24 @@ use Rattle.network.specs.Network.{Network, Free, Wired, reading}
 use Rattle.network.specs.Sample.{Answer, Empty, accepted, driveRefused, railRefused, storedRefused}
 use Rattle.network.proofs.Outcome.{one_outcome, accepted_alike}
 use Rattle.network.proofs.Ranges.{legal_in_range}
-use Rattle.circuit.specs.Board.{network_on, Ranged}
+use Rattle.circuit.specs.Board.{nodes_on, driven_on, network_on, Ranged}
 use Rattle.circuit.specs.Advance.{AllKept, StoredTo}
 use Rattle.circuit.specs.Places.{Taken}
 use Rattle.solve.specs.Answer.{drives_at}
+use Rattle.solve.proofs.RangeLaws.{Each, One, each_of, one_of}
 use Rattle.solve.specs.Sample.{DrivesTested, TopTested, Playable, Sampled, passed, refused, Leaves}
+
+-- ---- what is tested over a range
+
+pub drives_tested : (board : List ℕ) (volts : List ℤ) (r : Bool) → MatchBool r (Each (λ (j : ℕ). InDrive (drives_at volts j)) 0 (driven_on board)) (One (λ (j : ℕ). drive_limit < nat_abs (drives_at volts j)) 0 (driven_on board)) → DrivesTested board volts r
+drives_tested board volts true h = λ j l. each_of (λ (j : ℕ). InDrive (drives_at volts j)) 0 (driven_on board) h j (omega arith) l
+drives_tested board volts false h = let k = one_of (λ (j : ℕ). drive_limit < nat_abs (drives_at volts j)) 0 (driven_on board) h in (k.0, k.2, k.3)
+
+pub top_tested : (board : List ℕ) (volts : List ℤ) (r : Bool) → MatchBool r (One (λ (i : ℕ). pos voltage_limit ≤ℤ reading volts i) (driven_on board + 1) (nodes_on board + 1)) (Each (λ (i : ℕ). reading volts i <ℤ pos voltage_limit) (driven_on board + 1) (nodes_on board + 1)) → TopTested board volts r
+top_tested board volts true h = let k = one_of (λ (i : ℕ). pos voltage_limit ≤ℤ reading volts i) (driven_on board + 1) (nodes_on board + 1) h in (k.0, omega (arith, k.1), omega (arith, k.2), k.3)
+top_tested board volts false h = λ i above there. each_of (λ (i : ℕ). reading volts i <ℤ pos voltage_limit) (driven_on board + 1) (nodes_on board + 1) h i (omega arith) (omega arith)
+
+-- ---- how a sample ends
 
 module _ (board : List ℕ) (stretches volts stored : List ℤ) where
   pub drive_refused : {v : List ℤ} → DrivesTested board volts false → Sampled (network_on board stretches) (drives_at volts) stored stored v Drive

@@ -44,12 +44,7 @@ fn is_start(circuit: &Circuit, stored: &[i64; 32], volts: &[i64; 16]) -> bool
     ensures { result ≡ true → Start circuit.now.board circuit.now.stretches stored.now volts.now }
 {
     let nodes = circuit.nodes();
-    for i in circuit.driven() + 1..nodes + 1 {
-        if circuit.net_current(stored, volts, i) < 0 {
-            return false;
-        }
-    }
-    true
+    (circuit.driven() + 1..nodes + 1).all(|i| circuit.net_current(stored, volts, i) >= 0)
 }
 
 // From the top of the range.

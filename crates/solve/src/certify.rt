@@ -117,13 +117,8 @@ fn all_go(circuit: &Circuit, volts: &[i64; 16], up: &Point) -> bool
     requires { (nodes_on circuit.now.board ≤ 15) × (driven_on circuit.now.board ≤ nodes_on circuit.now.board) }
     ensures { result ≡ true → AllGo circuit.now.board volts.now up.now.volts up.now.nets }
 {
-    let last = circuit.nodes();
-    for i in circuit.driven() + 1..last + 1 {
-        if sticks(volts[i], up.volts[i], up.nets[i]) {
-            return false;
-        }
-    }
-    true
+    let nodes = circuit.nodes();
+    (circuit.driven() + 1..nodes + 1).all(|i| !sticks(volts[i], up.volts[i], up.nets[i]))
 }
 
 // The whole visit for `volts`, whether they are the highest; `up` begins as a copy of them and of their net

@@ -19,15 +19,10 @@ fn drives_legal(circuit: &Circuit, volts: &[i64; 16]) -> bool
     requires { driven_on circuit.now.board ≤ 15 }
     ensures { DrivesTested circuit.now.board volts.now result }
 {
-    for j in 0..circuit.driven() {
-        let v = Voltage {
-            microvolts: volts[j + 1],
-        };
-        if !v.in_drive() {
-            return false;
-        }
+    (0..circuit.driven()).all(|j| Voltage {
+        microvolts: volts[j + 1],
     }
-    true
+    .in_drive())
 }
 
 // Whether some free node stands at the top of the range.
@@ -36,15 +31,10 @@ fn at_top(circuit: &Circuit, volts: &[i64; 16]) -> bool
     ensures { TopTested circuit.now.board volts.now result }
 {
     let nodes = circuit.nodes();
-    for i in circuit.driven() + 1..nodes + 1 {
-        let v = Voltage {
-            microvolts: volts[i],
-        };
-        if !v.below_top() {
-            return true;
-        }
+    (circuit.driven() + 1..nodes + 1).any(|i| !Voltage {
+        microvolts: volts[i],
     }
-    false
+    .below_top())
 }
 
 // Where there is no answer in range, that is the number.

@@ -1,9 +1,0 @@
-use Prim.Native.Nat.{ℕ, ◌<◌}
-use lib.IntN.{pos}
-use lib.Signed.{◌<ℤ◌}
-use Rattle.network.specs.Network.{reading}
-use Rattle.circuit.specs.Board.{driven_on}
-use Rattle.solve.proofs.certify.all_go.Given as goal
-
-abbrev pub invariant-loop-i : goal.invariant-loop-i
-invariant-loop-i l = (k : ℕ) → k < l.i → driven_on l.circuit.board < k → reading l.volts k <ℤ reading l.up.volts k → pos 0 <ℤ reading l.up.nets k
