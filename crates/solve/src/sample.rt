@@ -19,10 +19,12 @@ fn drives_legal(circuit: &Circuit, volts: &[i64; 16]) -> bool
     requires { driven_on circuit.now.board ≤ 15 }
     ensures { DrivesTested circuit.now.board volts.now result }
 {
-    (0..circuit.driven()).all(|j| Voltage {
-        microvolts: volts[j + 1],
-    }
-    .in_drive())
+    (0..circuit.driven()).all(|j| {
+        let v = Voltage {
+            microvolts: volts[j + 1],
+        };
+        v.in_drive()
+    })
 }
 
 // Whether some free node stands at the top of the range.
@@ -31,10 +33,12 @@ fn at_top(circuit: &Circuit, volts: &[i64; 16]) -> bool
     ensures { TopTested circuit.now.board volts.now result }
 {
     let nodes = circuit.nodes();
-    (circuit.driven() + 1..nodes + 1).any(|i| !Voltage {
-        microvolts: volts[i],
-    }
-    .below_top())
+    (circuit.driven() + 1..nodes + 1).any(|i| {
+        let v = Voltage {
+            microvolts: volts[i],
+        };
+        !v.below_top()
+    })
 }
 
 // Where there is no answer in range, that is the number.
