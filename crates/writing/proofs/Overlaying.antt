@@ -3,20 +3,20 @@
 use mathlib.Core.Path.{◌≡◌, refl, sym, ◌∙◌, ap}
 use mathlib.Core.List.{List, [], ◌∷◌, ◌++◌, append_assoc}
 use mathlib.Core.Logic.{⊎_elim}
-use Prim.Native.Nat.{ℕ, zero, suc, ◌+◌, ◌*◌, ◌-◌, ◌/◌, ◌%◌, ◌^◌, ◌≤◌, ◌<◌}
-use native.Mathlib.Nat.{add_assoc, zero-add, mul_assoc, pow-succ'}
+use Prim.Native.Nat.{ℕ, zero, suc, ◌+◌, ◌*◌, ◌/◌, ◌%◌, ◌≤◌, ◌<◌}
+use native.Mathlib.Nat.{add_assoc, zero-add}
 use native.Mathlib.Numerals.{add-one}
 use native.Mathlib.Omega.{arith}
-use lib.IntN.{ℤ, pos, negsuc}
-use lib.ListN.{length, get_or, drop, set, length-append}
+use lib.IntN.{ℤ}
+use lib.ListN.{length, get_or, take, drop, set, length-append, length-take}
 use lib.Seq.{sets, sets-eq}
-use mir.Syntax.{w32, w64}
-use mir.Val.{SFits, of_z}
-use mir.ValLaws.{half_full}
+use mir.Syntax.{w32}
+use mir.Val.{of_z}
+use Rattle.std.proofs.lemmas.List.{get_or-take, get_or_default}
 use Rattle.units.specs.Bytes.{written}
 use Rattle.units.specs.Table.{overlaid, in_turn}
 use Rattle.units.proofs.Integers.{decide_n}
-use Rattle.units.proofs.Tables.{getD-alike, overlaid-append, tabulate-length}
+use Rattle.units.proofs.Tables.{overlaid-append, tabulate-length}
 use Rattle.network.specs.Network.{reading}
 use Rattle.image.specs.Parts.{no_element, no_curve, element_of, curve_of, breakpoints_of}
 use Rattle.image.specs.Curve.{curve_length}
@@ -41,25 +41,6 @@ pub written_is : (n : ℕ) (s : List ℕ) (at v : ℕ) → written n s at v ≡ 
 unfolding written overlaid bytes_of
 written_is zero s at v = refl
 written_is (suc n) s at v = written_is n (set s at (v % 256)) (at + 1) (v / 256)
-
--- n bytes hold nothing of what stands above them
-bytes_low : (n v k : ℕ) → bytes_of n (v + 256 ^ n * k) ≡ bytes_of n v
-unfolding bytes_of
-bytes_low zero v k = refl
-bytes_low (suc n) v k =
-    let x = 256 ^ n * k in
-    let above : 256 ^ suc n * k ≡ 256 * x = rw (pow-succ' 256 n) (mul_assoc 256 (256 ^ n) k) in
-    let first : (v + 256 * x) % 256 ≡ v % 256 = omega arith in
-    let rest : (v + 256 * x) / 256 ≡ v / 256 + x = omega arith in
-    rw (above, first, rest, bytes_low n (v / 256) k)
-
--- the lower half of an i32's bits at 64 bits is its bits
-pub signed_low : (z : ℤ) → SFits w32 z → bytes_of 4 (of_z w64 z) ≡ bytes_of 4 (of_z w32 z)
-signed_low (pos m) f = refl
-signed_low (negsuc m) f =
-    let small : m < 2 ^ 32 = half_full w32 f.sfits in
-    let e : 2 ^ 64 - suc m ≡ 2 ^ 32 - suc m + 256 ^ 4 * 4294967295 = omega arith in
-    ap (bytes_of 4) e ∙ bytes_low 4 (2 ^ 32 - suc m) 4294967295
 
 -- ---- parts in turn
 
@@ -109,19 +90,13 @@ element_in elements j = element_bytes (get_or elements j no_element)
 abbrev pub curve_in : List Curve → ℕ → List ℕ
 curve_in curves k = curve_bytes (get_or curves k no_curve)
 
--- the code's read of a curve has another default, which has the same bytes
-abbrev read_past : Curve
+-- an item of the first n, whatever stands for one that is not there
+pub among : {A : Type 0} (l : List A) (n j : ℕ) (d x : A) → j < length (take n l) → get_or (take n l) j x ≡ get_or l j d
+among l n j d x there = get_or-take n l j x (omega (arith, length-take n l)) ∙ get_or_default l j x d (omega (arith, length-take n l))
+
+-- what the code reads past an array
+abbrev pub read_past : Curve
 read_past = record { count = 0; slopes = []; breakpoints = [] }
-
-past_same : curve_bytes read_past ≡ curve_bytes no_curve
-unfolding curve_bytes in_turn
-past_same = refl
-
-pub curve_read : (curves : List Curve) (k : ℕ) → curve_bytes (get_or curves k read_past) ≡ curve_in curves k
-curve_read curves k = getD-alike curve_bytes curves k read_past no_curve past_same
-
-pub count_read : (curves : List Curve) (k : ℕ) → (get_or curves k read_past).count ≡ (get_or curves k no_curve).count
-count_read curves k = getD-alike (λ (c : Curve). c.count) curves k read_past no_curve refl
 
 -- those of the parts, as far as the counts reach
 pub elements_there : (parts : Parts) → in_turn (element_in parts.elements) parts.element_count ≡ elements_bytes parts
@@ -138,6 +113,16 @@ element_length e = refl
 
 pub elements_length : (element : ℕ → Element) (n : ℕ) → length (in_turn (λ (j : ℕ). element_bytes (element j)) n) ≡ element_size * n
 elements_length element n = turns_length (λ (j : ℕ). element_bytes (element j)) element_size (λ j. element_length (element j)) n
+
+-- those of the first n numbers alone
+pub first_bytes : (l : List ℕ) (n : ℕ) → n ≤ length l → in_turn (slope_bytes (take n l)) (length (take n l)) ≡ in_turn (slope_bytes l) n
+first_bytes l n h =
+    let e : length (take n l) ≡ n = omega (arith, length-take n l) in
+    rw e (turn_same _ _ n (λ j k. ap (bytes_of 4) (get_or-take n l j 0 k)))
+
+-- breakpoints' bits have the breakpoints' bytes
+pub bits_bytes : (bits : List ℕ) (breakpoints : List ℤ) (n : ℕ) → ((j : ℕ) → j < n → get_or bits j 0 ≡ of_z w32 (reading breakpoints j)) → in_turn (slope_bytes bits) n ≡ in_turn (breakpoint_bytes breakpoints) n
+bits_bytes bits breakpoints n same = turn_same _ _ n (λ j h. ap (bytes_of 4) (same j h))
 
 pub slopes_length : (slopes : List ℕ) (n : ℕ) → length (in_turn (slope_bytes slopes) n) ≡ 4 * n
 slopes_length slopes n = turns_length (slope_bytes slopes) 4 (λ j. bytes_length 4 _) n

@@ -8,9 +8,9 @@ ghost use Rattle.writing.specs.Image.{element_bytes, elements_bytes};
 use image::{Element, Parts};
 use units::bytes;
 
-fn put_element(buffer: &mut [u8], at: usize, e: Element)
+fn put_element(buffer: &mut [u8], at: usize, e: &Element)
     requires { at + element_size ≤ length buffer.old }
-    ensures { buffer.new ≡ overlaid buffer.old at (element_bytes e) }
+    ensures { buffer.new ≡ overlaid buffer.old at (element_bytes e.now) }
 {
     buffer[at] = e.kind;
     buffer[at + 1] = e.p;
@@ -24,9 +24,10 @@ pub fn put_elements(buffer: &mut [u8], parts: Parts)
     requires { (parts.element_count ≤ branch_limit) × (element_size * parts.element_count ≤ length buffer.old) }
     ensures { buffer.new ≡ overlaid buffer.old 0 (elements_bytes parts) }
 {
-    let elements = parts.elements;
-    let n = parts.element_count as usize;
-    for j in 0..n {
-        put_element(buffer, image::ELEMENT * j, elements[j]);
+    for (j, e) in parts.elements[..parts.element_count as usize]
+        .iter()
+        .enumerate()
+    {
+        put_element(buffer, image::ELEMENT * j, e);
     }
 }

@@ -5,4 +5,4 @@ use Rattle.writing.proofs.curve.curve_length.Goals as goal
 pub returns : goal.returns
 returns c =
     let m = c.curve_length.ensures in
-    (m ∙ sym (curve_length_lem c.args.c), m)
+    (m ∙ sym (curve_length_lem c.args.c.now), m)

@@ -6,8 +6,8 @@ use Rattle.writing.proofs.Overlaying.{curve_in}
 use Rattle.writing.proofs.curve.curves_length.Given as goal
 
 -- `writing::curve::curves_length` meets its contract. The total is the length of the curves that the loop has passed. Assumes nothing.
-abbrev pub invariant-loop-k : goal.invariant-loop-k
-invariant-loop-k l = record {
-  long : l.total ≡ length (in_turn (curve_in l.curves) l.k);
-  small : l.total ≤ 136 * l.k;
+abbrev pub invariant-loop-c : goal.invariant-loop-c
+invariant-loop-c l = record {
+  long : l.total ≡ length (in_turn (curve_in l.fn.parts.curves) l.c-index);
+  small : l.total ≤ 136 * l.c-index;
 }

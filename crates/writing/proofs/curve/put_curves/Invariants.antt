@@ -6,8 +6,8 @@ use Rattle.writing.proofs.Overlaying.{curve_in}
 use Rattle.writing.proofs.curve.put_curves.Given as goal
 
 -- `writing::curve::put_curves` meets its contract. The curves that the loop has passed are laid over the buffer, and it stands at their end. Assumes nothing.
-abbrev pub invariant-loop-k : goal.invariant-loop-k
-invariant-loop-k l = record {
-  stands : l.end ≡ l.at + length (in_turn (curve_in l.curves) l.k);
-  laid : l.buffer ≡ overlaid l.initial.buffer l.at (in_turn (curve_in l.curves) l.k);
+abbrev pub invariant-loop-c : goal.invariant-loop-c
+invariant-loop-c l = record {
+  stands : l.end ≡ l.at + length (in_turn (curve_in l.fn.parts.curves) l.c-index);
+  laid : l.buffer ≡ overlaid l.initial.buffer l.at (in_turn (curve_in l.fn.parts.curves) l.c-index);
 }
