@@ -93,7 +93,7 @@ module _ (text piece after : List ℕ) (i : ℕ) (joined : text ≡ piece ++ aft
       omega (arith, whole, far, long, lengths))
       (cases_lt n (length piece))
 
-  pub same_line : first run.Line piece ≡ first run.Line text
+  same_line : first run.Line piece ≡ first run.Line text
   same_line =
       ap (λ n. take n piece) (ends_so ∙ sym ends)
       ∙ sym (take-append-le (leading (belongs run.Line) text) piece after (omega (arith, ends, long)))
@@ -110,11 +110,9 @@ module _ (text piece after : List ℕ) (i : ℕ) (joined : text ≡ piece ++ aft
       ∙ sym (nil_from_length after (omega (arith, long, lengths, l))))
       (cases_lt i (length text))
 
-  pub piece_first : (length text ≡ 0 → ⊥) → lines text ≡ first run.Line piece ∷ lines after
-  piece_first h = lines_first text h ∙ rw (rest_after, same_line)
-
-  pub shorter : 0 < length text → length after < length text
-  shorter h = omega (arith, lengths, long)
+  -- so the text's lines are that of the piece and those after it
+  pub piece_first : 0 < length text → (lines text ≡ first run.Line piece ∷ lines after) × (length after < length text)
+  piece_first h = (lines_first text (λ e. omega (arith, e, h)) ∙ rw (rest_after, same_line), omega (arith, h, lengths, long))
 
 lines_none : (text : List ℕ) → length text ≡ 0 → lines text ≡ []
 unfolding lines

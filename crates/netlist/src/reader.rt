@@ -81,6 +81,7 @@ pub fn read(text: &[u8]) -> Result<Parts, Refusal>
     }
     let mut draft = draft::blank();
     let mut n: usize = 1;
+    // each line with its line feed: with `split` an empty line would follow the last line feed
     for piece in text.split_inclusive(|b| *b == b'\n') {
         let line = line::read(words::first(Run::Line, piece));
         match draft::fault_in(draft, line) {
