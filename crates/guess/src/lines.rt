@@ -67,7 +67,7 @@ fn anew(
 {
     memory.slopes = drawn(circuit, stored, volts, &mut memory.lines);
     memory.lost();
-    memory.inverse = matrix::inverse(&memory.slopes, Rows::free(circuit))?;
+    matrix::invert(&memory.slopes, Rows::free(circuit), &mut memory.inverse)?;
     memory.made();
     Ok(())
 }

@@ -87,19 +87,20 @@ fn clear(a: &mut Matrix, k: usize, rows: Rows)
     }
 }
 
-// The inverse, pivot by pivot, unless one isn't above zero. The caller's matrix stays whole, for what
-// changes in it later is added to it, and its currents are asked for.
-pub fn inverse(m: &Matrix, rows: Rows) -> Result<Matrix, Singular> {
-    let mut a = *m;
+// The inverse, pivot by pivot, unless one isn't above zero. The matrix itself stays whole, for what changes
+// in it later is added to it, and its currents are asked for. A matrix that is handed up would be copied twice on
+// the stack, which a host has little of: so its place is lent.
+pub fn invert(m: &Matrix, rows: Rows, inverse: &mut Matrix) -> Result<(), Singular> {
+    *inverse = *m;
     for k in rows.first..rows.end {
-        let pivot = a[k][k];
+        let pivot = inverse[k][k];
         if !(0.0 < pivot) {
             return Err(Singular);
         }
-        scale(&mut a, k, 1.0 / pivot);
-        clear(&mut a, k, rows);
+        scale(inverse, k, 1.0 / pivot);
+        clear(inverse, k, rows);
     }
-    Ok(a)
+    Ok(())
 }
 
 // How the nodes answer to a current that is taken out of q and into p. A fixed node has no row.
