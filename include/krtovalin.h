@@ -23,7 +23,7 @@
  * Blocks can be cut anywhere: an accepted block of n samples and then one of m, with the state that the first left, answer and leave
  * together what one of n + m does, where that is not refused by 8.
  *
- * Stack, measured over all circuits of bench/cases: 27,976 bytes on x86-64. With the older toolchain it was 29,240 there and 28,112 on a
+ * Stack, measured over all circuits of bench/cases: 26,232 bytes on x86-64. With the older toolchain it was 29,240 there and 28,112 on a
  * 64-bit Arm; on a Cortex-M7 it was some 300 bytes less than there before net currents were kept, and has not been measured since. Allow
  * 32 KiB.
  */

@@ -75,7 +75,11 @@ fn of_parts(out: Stdout, parts: Parts, q: Question) -> io::Result<()>
     if !image::conductances_fit(parts) {
         return refused(out);
     }
-    let circuit = opening::circuit(parts);
+    let mut circuit = Circuit {
+        board: [0; 293],
+        stretches: [0; 408],
+    };
+    opening::fill(parts, &mut circuit);
     of_board(out, &circuit, q)
 }
 

@@ -9,6 +9,7 @@ ghost use Rattle.block.specs.Playing.{Admits, state_of};
 
 use crate::ending::Ending;
 use crate::{lengths, run, state};
+use circuit::Circuit;
 use image::Parts;
 use units::number::Number;
 
@@ -29,7 +30,11 @@ pub fn play(parts: Parts, n: u64, drives: &[u8], x: &mut [i64; 32], outputs: &mu
     ensures plays { PlaysOn parts (state_of x.old) n drives.now outputs.old (number_of result.number) result.count (state_of x.new) outputs.new }
     ensures few { result.count ≤ block_limit }
 {
-    let circuit = opening::circuit(parts);
+    let mut circuit = Circuit {
+        board: [0; 293],
+        stretches: [0; 408],
+    };
+    opening::fill(parts, &mut circuit);
     if !state::legal(&circuit, x) {
         return Ending::refused(Number::State);
     }

@@ -5,5 +5,5 @@
 mod numbers;
 mod table;
 
-pub use numbers::circuit;
+pub use numbers::{circuit, fill};
 pub use table::stretches;

@@ -1,9 +1,10 @@
 // The board: a circuit's numbers, and what is computed from them: the index and the steepest sums.
-ghost use Rattle.std.specs.Prelude.{◌≡◌, true, [], ◌∷◌, ◌+◌, ◌*◌, ◌≤◌, ◌<◌};
+ghost use Rattle.std.specs.Prelude.{◌≡◌, true, pos, [], ◌∷◌, ◌+◌, ◌*◌, ◌≤◌, ◌<◌, replicate};
 ghost use Rattle.units.specs.Table.{overlaid, padded};
 ghost use Rattle.image.specs.Conductance.{conductances_fit};
 ghost use Rattle.image.specs.Setting.{plain};
 ghost use Rattle.image.specs.Sound.{Sound};
+ghost use Rattle.stretch.specs.Stretch.{stretches_size};
 ghost use Rattle.circuit.specs.Board.{board_size};
 ghost use Rattle.opening.specs.Opening.{laid_number, laid_of, board_of, stretches_of};
 
@@ -43,37 +44,48 @@ fn lay(board: &mut [u64; 293], parts: &Parts, j: usize)
     }
 }
 
-// The leak, the counts and the elements; nothing that is computed from them yet.
-fn laid(parts: Parts) -> [u64; 293]
-    requires { Sound parts }
-    ensures { result ≡ laid_of parts plain }
+// The leak, the counts and the elements, on a board of zeros; nothing that is computed from them yet.
+fn lay_all(board: &mut [u64; 293], parts: &Parts)
+    requires { Sound parts.now × (board.old ≡ replicate board_size 0) }
+    ensures { board.new ≡ laid_of parts.now plain }
 {
-    let mut board = [0u64; 293];
     board[0] = image::leak(parts.version);
     board[1] = parts.nodes as u64;
     board[2] = parts.driven as u64;
     board[3] = parts.element_count as u64;
     for j in 0..parts.element_count as usize {
-        lay(&mut board, &parts, j);
+        lay(board, parts, j);
     }
-    board
 }
 
-// The circuit of parts whose conductances are within their limits.
-pub fn circuit(parts: Parts) -> Circuit
-    requires { Sound parts × (conductances_fit parts plain ≡ true) }
-    ensures board { result.board ≡ board_of parts plain }
-    ensures stretches { result.stretches ≡ stretches_of parts }
+// Makes a circuit of zeros that of parts whose conductances are within their limits, where it stands. One that is
+// handed up stands twice on the stack, of which a host has little.
+pub fn fill(parts: Parts, circuit: &mut Circuit)
+    requires fit { Sound parts × (conductances_fit parts plain ≡ true) }
+    requires board { circuit.old.board ≡ replicate board_size 0 }
+    requires stretches { circuit.old.stretches ≡ replicate stretches_size (pos 0) }
+    ensures board { circuit.new.board ≡ board_of parts plain }
+    ensures stretches { circuit.new.stretches ≡ stretches_of parts }
 {
-    let mut circuit = Circuit {
-        board: laid(parts),
-        stretches: [0; 408],
-    };
+    lay_all(&mut circuit.board, &parts);
     table::stretches(parts, &mut circuit.stretches);
     circuit.fill_index();
     for i in 0..16 {
         let sum = circuit.steepest(i);
         circuit.board[4 + i] = sum;
     }
+}
+
+// The circuit of such parts.
+pub fn circuit(parts: Parts) -> Circuit
+    requires { Sound parts × (conductances_fit parts plain ≡ true) }
+    ensures board { result.board ≡ board_of parts plain }
+    ensures stretches { result.stretches ≡ stretches_of parts }
+{
+    let mut circuit = Circuit {
+        board: [0; 293],
+        stretches: [0; 408],
+    };
+    fill(parts, &mut circuit);
     circuit
 }

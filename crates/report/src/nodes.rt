@@ -53,7 +53,11 @@ pub fn put_bounds(buffer: &mut [u8], parts: Parts) -> usize
     requires { Sound parts × (conductances_fit parts plain ≡ true) × (4096 ≤ length buffer.old) }
     ensures { Bounds (network_at parts plain) buffer.old result buffer.new × (result ≤ 4096) }
 {
-    let circuit = opening::circuit(parts);
+    let mut circuit = Circuit {
+        board: [0; 293],
+        stretches: [0; 408],
+    };
+    opening::fill(parts, &mut circuit);
     let mut text = Text::new(buffer);
     put_nodes(&mut text, &circuit);
     fields::put_named(&mut text, b"greatest ", greatest(&circuit));

@@ -1,4 +1,4 @@
-use Prim.Native.Nat.{ℕ, ◌-◌, ◌^◌, ◌≤◌, ◌<◌}
+use Prim.Native.Nat.{ℕ, ◌^◌, ◌≤◌, ◌<◌}
 use lib.IntN.{nat_abs, pos}
 use lib.ListN.{get_or}
 use Rattle.bench_circuit.proofs.ask.all_kept.Given as goal

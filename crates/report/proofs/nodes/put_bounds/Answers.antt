@@ -8,12 +8,12 @@ use Rattle.report.proofs.nodes.put_bounds.Goals as goal
 
 pub put_nodes-requires : goal.put_nodes-requires
 put_nodes-requires c =
-    let on-board : Laid c.circuit-circuit.result.board c.circuit-circuit.result.stretches = laid_is c.args.parts _ _ c.requires.0 c.circuit-circuit.ensures.board c.circuit-circuit.ensures.stretches c.requires.1 in
+    let on-board : Laid c.fill.new.circuit.board c.fill.new.circuit.stretches = laid_is c.args.parts _ _ c.requires.0 c.fill.ensures.board c.fill.ensures.stretches c.requires.1 in
     (on-board, search rules)
 
 pub greatest-requires : goal.greatest-requires
 greatest-requires c =
-    let on-board : Laid c.circuit-circuit.result.board c.circuit-circuit.result.stretches = laid_is c.args.parts _ _ c.requires.0 c.circuit-circuit.ensures.board c.circuit-circuit.ensures.stretches c.requires.1 in
+    let on-board : Laid c.fill.new.circuit.board c.fill.new.circuit.stretches = laid_is c.args.parts _ _ c.requires.0 c.fill.ensures.board c.fill.ensures.stretches c.requires.1 in
     on-board
 
 pub returns : goal.returns
@@ -21,8 +21,8 @@ returns c =
     let last = puts_then c.put_nodes.ensures c.put_named.ensures in
     let adds = rw (c.new-text.ensures.end, c.new-text.ensures.bytes) at last.adds in
     let most = c.greatest in
-    let board = c.circuit-circuit.result.board in
-    let stretches = c.circuit-circuit.result.stretches in
+    let board = c.fill.new.circuit.board in
+    let stretches = c.fill.new.circuit.stretches in
     let bounds : Bounds (network_on board stretches) _ _ _ = record { most = most.result; is_greatest = most.ensures; text = adds_within {n = 4096} (omega arith) adds } in
-    let on-parts = rw (network_of_lem c.args.parts board stretches c.requires.0 c.circuit-circuit.ensures.board c.circuit-circuit.ensures.stretches) at bounds in
+    let on-parts = rw (network_of_lem c.args.parts board stretches c.requires.0 c.fill.ensures.board c.fill.ensures.stretches) at bounds in
     (search rules, omega (arith, adds.short, adds.moved))

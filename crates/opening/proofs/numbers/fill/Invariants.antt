@@ -1,7 +1,7 @@
 use mathlib.Core.Path.{◌≡◌}
 use Rattle.image.specs.Setting.{plain}
 use Rattle.opening.specs.Opening.{board_to, stretches_of}
-use Rattle.opening.proofs.numbers.circuit.Given as goal
+use Rattle.opening.proofs.numbers.fill.Given as goal
 
 -- the board has the steepest sums of the first i nodes
 abbrev pub invariant-loop-i : goal.invariant-loop-i
