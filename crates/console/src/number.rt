@@ -26,7 +26,7 @@ fn all_digits(text: &[u8]) -> bool
 }
 
 // What digits are worth, or what is beyond.
-fn worth(digits: &[u8]) -> u64
+pub fn worth(digits: &[u8]) -> u64
     requires { all_digits digits.now ≡ true }
     ensures { result ≡ min (worth digits.now (length digits.now)) (2 ^ 63) }
 {

@@ -1,22 +1,25 @@
 -- A text that is read line by line: what the lines so far say of the whole. Assumes nothing.
-use mathlib.Core.Bool.{cond}
+use mathlib.Core.Bool.{Bool, true, false, not, ◌&&◌, cond, false≢true, true≢false}
 use mathlib.Core.Path.{◌≡◌, refl, sym, ◌∙◌, ap}
 use Rattle.std.proofs.Common.{Some, None, Err}
 use mathlib.Core.List.{List, [], ◌∷◌, ◌++◌}
-use Prim.Native.Nat.{ℕ, suc, ◌+◌, ◌≤◌, ◌<◌}
+use Prim.Native.Nat.{ℕ, suc, ◌+◌, ◌-◌, ◌≤◌, ◌<◌}
 use lib.Dec.{eqb}
 use borrow.Author.Tests.{ne_eqb, eq-eqb}
 use native.Mathlib.Omega.{arith}
 use Rattle.std.proofs.Common.{min, take, drop, ⊎_elim}
 use Rattle.std.proofs.lemmas.Bool.{cases_lt}
-use Rattle.std.proofs.lemmas.List.{length-append, take-append-le, nil_from_length}
+use Rattle.std.proofs.lemmas.List.{drop_more, length-append, take-append-le, nil_from_length}
 use Rattle.std.proofs.lemmas.List.Folds.{prefix_len-append}
-use Rattle.std.proofs.Math.Seq.{drop-append_seam}
+use Rattle.std.proofs.Math.Seq.{drop-append_seam, take-length}
+use Rattle.std.specs.Cmp.Lexicographic.{pointwise}
 use Rattle.std.specs.List.{IsFirstMatchOrLen}
-use lib.ListN.{length, drop_of_length-le}
+use Rattle.std.specs.Prelude.{nat_eq}
+use lib.ListN.{length, get_or, drop_of_length-le}
 use Rattle.console.specs.Words.{belongs, leading, first, lines}
 use Rattle.console.specs.declared.words.Run.TheVariants as run
-use Rattle.std.proofs.lemmas.List.Sums.{prefix_len-le-length, position_or_len_is}
+use Rattle.std.proofs.lemmas.List.Sums.{prefix_len-le-length, prefix_len_passes, prefix_len_stops, position_or_len_is}
+use Rattle.units.proofs.Every.{both}
 use Rattle.console.proofs.WordLaws.{lines_first}
 use Rattle.netlist.specs.Draft.{blank_draft, fault_of, with_line}
 use Rattle.netlist.specs.Kept.{header_kept, kept_draft, KeptOf, Right}
@@ -110,9 +113,53 @@ module _ (text piece after : List ℕ) (i : ℕ) (joined : text ≡ piece ++ aft
       ∙ sym (nil_from_length after (omega (arith, long, lengths, l))))
       (cases_lt i (length text))
 
-  -- so the text's lines are that of the piece and those after it
+  -- so a line feed can only be its last byte
+  pub piece_ends : length piece ≤ suc (leading (belongs run.Line) piece)
+  piece_ends = omega (arith, ends_so, long)
+
+  -- and the text's lines are that of the piece and those after it
   pub piece_first : 0 < length text → (lines text ≡ first run.Line piece ∷ lines after) × (length after < length text)
   piece_first h = (lines_first text (λ e. omega (arith, e, h)) ∙ rw (rest_after, same_line), omega (arith, h, lengths, long))
+
+-- ---- a piece without the line feed that ends it
+
+-- what stands from the last byte on
+last : (piece : List ℕ) (n : ℕ) → suc n ≡ length piece → drop n piece ≡ get_or piece n 0 ∷ []
+last piece n e = drop_more piece n 0 (omega (arith, e)) ∙ ap (λ (t : List ℕ). get_or piece n 0 ∷ t) (drop_of_length-le piece {i = n + 1} (omega (arith, e)))
+
+-- no byte is both a line feed and none
+clash : (fed : Bool) → not fed ≡ false → fed && true ≡ false → ⊥
+clash true s e = true≢false e
+clash false s e = true≢false s
+
+module _ (piece : List ℕ) (ends : length piece ≤ suc (leading (belongs run.Line) piece)) where
+  pub feed_off : pointwise nat_eq (drop (length piece - 1) piece) (10 ∷ []) ≡ true → take (length piece - 1) piece ≡ first run.Line piece
+  feed_off e =
+      let there = leading (belongs run.Line) piece in
+      ⊎_elim
+      (λ (l : there < length piece). ap (λ n. take n piece) (omega (arith, ends, l)))
+      (λ (l : length piece ≤ there).
+      ⊎_elim
+      (λ (none : length piece < 1). ap (λ n. take n piece) (omega (arith, none, prefix_len-le-length (belongs run.Line) piece)))
+      (λ (some : 1 ≤ length piece).
+      let k = length piece - 1 in
+      let fed : eqb (get_or piece k 0) 10 ≡ true = (both {a = eqb (get_or piece k 0) 10} (rw (last piece k (omega (arith, some))) at e)).0 in
+      let passes : not (eqb (get_or piece k 0) 10) ≡ true = prefix_len_passes (belongs run.Line) piece k 0 (omega (arith, l, some)) in
+      absurd (false≢true (rw fed at passes)))
+      (cases_lt (length piece) 1))
+      (cases_lt there (length piece))
+
+  pub feed_none : pointwise nat_eq (drop (length piece - 1) piece) (10 ∷ []) ≡ false → piece ≡ first run.Line piece
+  feed_none e =
+      let there = leading (belongs run.Line) piece in
+      ⊎_elim
+      (λ (l : there < length piece).
+      let at : length piece - 1 ≡ there = omega (arith, ends, l) in
+      absurd (clash (eqb (get_or piece there 0) 10) (prefix_len_stops (belongs run.Line) piece 0 l) (rw (at, last piece there (omega (arith, ends, l))) at e)))
+      (λ (l : length piece ≤ there).
+      let whole : there ≡ length piece = omega (arith, l, prefix_len-le-length (belongs run.Line) piece) in
+      sym (ap (λ n. take n piece) whole ∙ take-length piece))
+      (cases_lt there (length piece))
 
 lines_none : (text : List ℕ) → length text ≡ 0 → lines text ≡ []
 unfolding lines

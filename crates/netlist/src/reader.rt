@@ -1,11 +1,11 @@
 // The reader of a text: line by line, until one is faulty or all have been read.
-ghost use Rattle.std.specs.Prelude.{◌≡◌};
+ghost use Rattle.std.specs.Prelude.{◌≡◌, ◌≤◌, suc, length};
+ghost use Rattle.console.specs.Words.{belongs, leading, first};
+ghost use Rattle.console.specs.declared.words.Run.TheVariants.{Line};
 ghost use Rattle.netlist.specs.Answer.{number_of, line_of, refusal_of, at_end, Answers};
 
 use super::draft::{Draft, Fault};
 use super::{draft, line};
-use console::words;
-use console::words::Run;
 use image::Parts;
 use units::number::Number;
 
@@ -72,6 +72,18 @@ fn at_end(n: usize, draft: Draft) -> Result<Parts, Refusal>
     }
 }
 
+// The line in a piece, which may have a line feed as its last byte and has no other. It was looked for when the
+// text was cut, and is not looked for again.
+fn line_in<'a>(piece: &'a [u8]) -> &'a [u8]
+    requires { length piece.now ≤ suc (leading (belongs Line) piece.now) }
+    ensures { result.now ≡ first Line piece.now }
+{
+    match piece.strip_suffix(b"\n") {
+        Some(line) => line,
+        None => piece,
+    }
+}
+
 // Reads any bytes whatever.
 pub fn read(text: &[u8]) -> Result<Parts, Refusal>
     ensures { Answers text.now result }
@@ -83,7 +95,7 @@ pub fn read(text: &[u8]) -> Result<Parts, Refusal>
     let mut n: usize = 1;
     // each line with its line feed: with `split` an empty line would follow the last line feed
     for piece in text.split_inclusive(|b| *b == b'\n') {
-        let line = line::read(words::first(Run::Line, piece));
+        let line = line::read(line_in(piece));
         match draft::fault_in(draft, line) {
             Some(fault) => return Err(Refusal::of(fault, n)),
             None => draft = draft::with_line(draft, line),

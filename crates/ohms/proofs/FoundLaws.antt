@@ -1,14 +1,14 @@
 -- What the reader of a factor answers is right. Assumes nothing.
-use mathlib.Core.Path.{◌≡◌, refl}
+use mathlib.Core.Path.{◌≡◌, refl, ap}
 use mathlib.Core.List.{List}
 use mathlib.Core.Logic.{◌⊎◌, inl, inr}
 use Prim.Native.Nat.{ℕ, zero, suc, ◌+◌, ◌-◌, ◌^◌, ◌≤◌, ◌<◌, min}
 use native.Mathlib.Omega.{arith}
-use lib.ListN.{get_or}
+use lib.ListN.{get_or, take, drop}
 use borrow.Author.Tests.{le-leb, lt-leb}
 use Rattle.units.proofs.Integers.{decide_n}
 use Rattle.console.specs.Number.{worth_at}
-use Rattle.console.specs.Words.{past}
+use Rattle.console.specs.Words.{first, past}
 use Rattle.console.specs.declared.words.Run.TheVariants.{Blanks, Digits}
 use Rattle.ohms.specs.Worth.{Worth, stage, most}
 use Rattle.ohms.specs.Grammar.{Written, Bracketed, Factor, Sum}
@@ -24,6 +24,10 @@ stage_far n = go (decide_n n (2 ^ 63))
     go (inr h) =
         let far : min n (2 ^ 63) ≡ 2 ^ 63 = omega arith in
         rw (far, le-leb 1 n (omega arith), lt-leb n most (omega arith))
+
+-- the digits that end at a place are those at the start of what stands there
+pub written_there : (text : List ℕ) (i j : ℕ) → j ≡ past Digits text i → take (j - i) (drop i text) ≡ first Digits (drop i text)
+written_there text i j e = ap (λ n. take n (drop i text)) (omega (arith, e))
 
 module _ (text : List ℕ) where
   -- digits are a number

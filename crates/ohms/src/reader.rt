@@ -65,7 +65,7 @@ fn factor(text: &[u8], room: usize, at: usize) -> Option<Found>
     if at < end {
         return Some(Found {
             end: words::past(Run::Blanks, text, end),
-            worth: stages::stage(number::worth_at(text, at)),
+            worth: stages::stage(number::worth(&text[at..end])),
         });
     }
     if room == 0 || words::byte_at(text, at) != b'(' {

@@ -15,13 +15,10 @@ pub enum Sign {
 pub fn stage(n: u64) -> Option<u32>
     ensures { result ≡ stage n }
 {
-    let Ok(value) = u32::try_from(n) else {
-        return None;
-    };
-    if value == 0 {
+    if n == 0 {
         return None;
     }
-    Some(value)
+    u32::try_from(n).ok()
 }
 
 // Two resistances in parallel, rounded down; nothing beside nothing is nothing.

@@ -8,7 +8,7 @@ use mathlib.Core.List.{◌∷◌}
 use Rattle.netlist.specs.Answer.{long, read}
 use Rattle.netlist.specs.Kept.{Right}
 use Rattle.netlist.specs.Text.{SaysLine}
-use Rattle.netlist.proofs.TextLaws.{piece_first, reached_first, reached_last, reached_fault, reached_more}
+use Rattle.netlist.proofs.TextLaws.{piece_ends, piece_first, reached_first, reached_last, reached_fault, reached_more}
 use Rattle.netlist.proofs.reader.read.Goals as goal
 use Rattle.netlist.proofs.reader.read.Goals.{After-read-line}
 
@@ -26,8 +26,13 @@ here c =
     let (joined, (i, size, places), some) = c.in-Some.ensures.steps in
     piece_first _ _ _ i joined size (places (λ b. eqb b 10) (answers_always _ _ _ (λ f a r g h. search (rules, tests)))).1 some
 
+pub line_in-requires : goal.line_in-requires
+line_in-requires c =
+    let (joined, (i, size, places), some) = c.in-Some.ensures.steps in
+    piece_ends _ _ _ i joined size (places (λ b. eqb b 10) (answers_always _ _ _ (λ f a r g h. search (rules, tests)))).1
+
 told : (c : After-read-line) → Right (SaysLine (first run.Line c.in-Some.piece.now)) c.read-line.result
-told c = rw c.first.ensures at c.read-line.ensures
+told c = rw c.line_in.ensures at c.read-line.ensures
 
 pub returns-in-Some-fault_in : goal.returns-in-Some-fault_in
 returns-in-Some-fault_in c =

@@ -1,22 +1,36 @@
 -- A factor's answers are right by the laws of FoundLaws; a chain's first value, its next and its last by those of ReadyLaws. Assumes nothing.
-use Rattle.std.proofs.Common.{◌<◌, sym, ap, ◌∙◌, inl, inr, arith}
+use Rattle.std.proofs.lemmas.List.{length-drop}
+use Rattle.std.proofs.lemmas.List.Sums.{prefix_len-le-length}
+use Rattle.std.proofs.Common.{◌<◌, drop, sym, ap, ◌∙◌, inl, inr, arith}
 use Rattle.console.specs.Number.{worth_at}
-use Rattle.console.specs.Words.{past}
+use Rattle.console.proofs.NumberLaws.{digits_only}
+use Rattle.console.specs.Words.{belongs, past}
 use Rattle.console.specs.declared.words.Run.TheVariants.{Digits}
 use Rattle.ohms.specs.Worth.{stage}
 use Rattle.ohms.specs.Found.{Operand}
 use Rattle.ohms.proofs.FactorLaws.{operand_reads}
-use Rattle.ohms.proofs.FoundLaws.{stage_far, factor_written, factor_unopened, factor_empty, factor_unclosed, factor_bracketed}
+use Rattle.ohms.proofs.FoundLaws.{stage_far, written_there, factor_written, factor_unopened, factor_empty, factor_unclosed, factor_bracketed}
 use Rattle.ohms.proofs.ReadyLaws.{ready_first, no_first, ready_more, no_next, ready_done}
 use Rattle.ohms.proofs.reader.+factor_chain_operand.Goals.{factor-then-room-eq0-via-then-room-eq0, factor-then-room-eq0-via-else-room-eq0+then-byte_at-ne40}
 use Rattle.ohms.proofs.reader.+factor_chain_operand.Goals as goal
+
+pub factor-slice_bounds-worth-end : goal.factor-slice_bounds-worth-end
+factor-slice_bounds-worth-end t c =
+    let text = c.args.text.now in
+    let at = drop c.args.at text in
+    omega (arith, c.past-end.ensures, c.if-at-end.true, prefix_len-le-length (belongs Digits) at, length-drop c.args.at text)
+
+pub factor-worth-requires : goal.factor-worth-requires
+factor-worth-requires t c =
+    let text = c.args.text.now in
+    rw (written_there text c.args.at c.past-end.result c.past-end.ensures) (digits_only (drop c.args.at text))
 
 pub factor-returns-then-at-end : goal.factor-returns-then-at-end
 factor-returns-then-at-end t c =
     let a = c.args in
     let text = a.text.now in
     let some : a.at < past Digits text a.at = rw c.past-end.ensures at c.if-at-end.true in
-    let worth = c.stage.ensures ∙ ap stage c.worth_at.ensures ∙ stage_far (worth_at text a.at) in
+    let worth = c.stage.ensures ∙ ap stage (c.worth.ensures ∙ rw (written_there text a.at c.past-end.result c.past-end.ensures)) ∙ stage_far (worth_at text a.at) in
     rw (c.past.ensures, c.past-end.ensures) (factor_written text a.room a.at _ some worth)
 
 pub factor-returns-then-room-eq0 : goal.factor-returns-then-room-eq0

@@ -1,24 +1,20 @@
-use Rattle.std.proofs.Common.{◌<◌, leb, Some, ap, arith, le-leb}
+use Rattle.std.proofs.Common.{◌≡◌, ◌<◌, ℕ, leb, Some, Ok, Err, ap, arith, le-leb}
 use Rattle.std.proofs.lemmas.Bool.{lt-leb}
+use Rattle.std.specs.Prelude.{Result}
+use Rattle.std.specs.Result.{OkIff, result_ok}
 use Rattle.units.proofs.Every.{and_no}
 use Rattle.ohms.specs.Worth.{most, stage}
 use Rattle.ohms.proofs.stages.stage.Goals as goal
 
-pub returns-in_default : goal.returns-in_default
+pub returns-then-n-eq0 : goal.returns-then-n-eq0
 unfolding stage
-returns-in_default c =
-    let n = c.args.n in
-    let outside : n < 4294967296 → ⊥ = c.in_default.ensures in
-    rw (lt-leb n most (omega arith), and_no (leb 1 n))
+returns-then-n-eq0 c = rw (lt-leb 1 c.args.n (omega (arith, c.if-n-eq0.true)))
 
-pub returns-then-value-eq0 : goal.returns-then-value-eq0
+-- a number that fits is a stage unless it is 0, and one that doesn't is none
+fitted : {E : Type 0} (n : ℕ) (r : Result ℕ E) → OkIff r (n < 4294967296) n → (n ≡ 0 → ⊥) → result_ok r ≡ stage n
 unfolding stage
-returns-then-value-eq0 c =
-    let within = c.in-Ok.ensures in
-    rw (lt-leb 1 c.args.n (omega arith))
+fitted n (Ok v) within some = rw (le-leb 1 n (omega (arith, some)), le-leb n most (omega (arith, within.0))) (ap Some within.1)
+fitted n (Err e) outside some = rw (lt-leb n most (omega (arith, outside)), and_no (leb 1 n))
 
 pub returns : goal.returns
-unfolding stage
-returns c =
-    let within = c.in-Ok.ensures in
-    rw (le-leb 1 c.args.n (omega arith), le-leb c.args.n most (omega arith)) (ap Some within.1)
+returns c = rw c.ok.ensures.value (fitted c.args.n c.try_from.result c.try_from.ensures c.if-n-eq0.false)
