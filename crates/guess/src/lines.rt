@@ -106,6 +106,7 @@ fn strays(circuit: &Circuit, volts: &[i64; 16], lines: &[Tangent; 32], j: usize)
 // How many of the curves do.
 fn strayed(circuit: &Circuit, volts: &[i64; 16], memory: &Memory) -> usize
     requires { Laid circuit.now.board circuit.now.stretches × Ranged circuit.now.board volts.now }
+    ensures { result ≤ 32 }
 {
     memory
         .curves()

@@ -90,6 +90,11 @@ abbrev pub number_of : Refusal → ℕ
 number_of Pairs = 12
 number_of Slope = 13
 
+-- that of what a list came to: 0 for a curve
+abbrev pub answer_number : Result Curve Refusal → ℕ
+answer_number (Ok c) = 0
+answer_number (Err refusal) = number_of refusal
+
 -- the curve of a list, 13 if one of its slopes is too large, and before that 12 if its pairs break a rule
 abbrev pub drawn : List ℤ → List ℤ → Result Curve Refusal
 drawn volts amps = cond (slopes_fit volts amps) (Ok (curve_of volts amps)) (Err Slope)

@@ -2,7 +2,7 @@
 ghost use Rattle.std.specs.Prelude.{◌≡◌, true, ℕ, suc, ◌≤◌, ◌<◌, pos, length};
 ghost use Rattle.units.specs.Table.{padded};
 ghost use Rattle.network.specs.Network.{reading, breakpoint_limit, breakpoint_count_limit};
-ghost use Rattle.measured.specs.Measured.{number_of, size_at, width_after, largest, pairs_fit, drawn, measured};
+ghost use Rattle.measured.specs.Measured.{number_of, answer_number, size_at, width_after, largest, pairs_fit, drawn, measured};
 
 use super::pairs;
 use image::Curve;
@@ -23,6 +23,16 @@ impl From<Refusal> for u64 {
             Refusal::Pairs => 12,
             Refusal::Slope => 13,
         }
+    }
+}
+
+// Document 02's number of what a list came to: 0 for a curve.
+pub fn number(made: &Result<Curve, Refusal>) -> u64
+    ensures { result ≡ answer_number made.now }
+{
+    match made {
+        Ok(_) => 0,
+        Err(refusal) => u64::from(*refusal),
     }
 }
 

@@ -5,5 +5,5 @@
 mod drawing;
 mod pairs;
 
-pub use drawing::{Refusal, curve};
+pub use drawing::{Refusal, curve, number};
 pub use pairs::MOST;
